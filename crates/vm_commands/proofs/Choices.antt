@@ -1,0 +1,29 @@
+-- What is known of a choice by what it gave.
+use Rattle.std.proofs.Common.{◌≡◌, ℕ, Bool, true, false, cond, ◌||◌, ◌⊎◌, inl, inr, Option, Some, None, option_and_then, refl}
+
+-- which side was chosen
+pub chosen : {A : Type 0} (b : Bool) (x y z : A) → cond b x y ≡ z → ((b ≡ true) × (x ≡ z)) ⊎ ((b ≡ false) × (y ≡ z))
+chosen true x y z h = inl (refl, h)
+chosen false x y z h = inr (refl, h)
+
+-- a choice whose other side gives nothing
+pub some_chosen : {A : Type 0} (b : Bool) (o : Option A) (x : A) → cond b o None ≡ Some x → (b ≡ true) × (o ≡ Some x)
+some_chosen true o x h = (refl, h)
+some_chosen false o x h = absurd cc
+
+-- which of two tests passed
+pub either : (a b : Bool) → (a || b) ≡ true → (a ≡ true) ⊎ (b ≡ true)
+either true b h = inl refl
+either false b h = inr h
+
+-- a value that was made of another
+pub some_bound : {A B : Type 0} (o : Option A) (f : A → Option B) (y : B) → option_and_then f o ≡ Some y → (x : A) × (o ≡ Some x) × (f x ≡ Some y)
+some_bound (Some x) f y h = (x, refl, h)
+some_bound None f y h = absurd cc
+
+pub decided : (b : Bool) → (b ≡ true) ⊎ (b ≡ false)
+decided true = inl refl
+decided false = inr refl
+
+pub some_is : (m n : ℕ) → Some m ≡ Some n → m ≡ n
+some_is m n h = cc

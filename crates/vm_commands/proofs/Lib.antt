@@ -1,0 +1,9 @@
+pub mod Choices
+pub mod Digits
+pub mod Gathered
+pub mod FormLaws
+pub mod LineLaws
+pub mod MeaningLaws
+pub mod SizeLaws
+pub mod UnitTable
+pub mod WordLaws

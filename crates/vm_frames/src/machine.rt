@@ -1,0 +1,138 @@
+ghost use Rattle.std.specs.Prelude.{◌≡◌, ◌+◌, ◌<◌, ◌≤◌, [], IfOk, OnOk, IfSome, IfNone, IsTrue, false, vec_capacity};
+ghost use Rattle.std.specs.FinSet as set;
+ghost use Rattle.vm_frames.specs.KeptFrames.{numbers_of, numbers_below, without, AreDistinctIn};
+
+use crate::frame::Frame;
+use std::alloc::{AllocError, Global};
+use std::marker::Model;
+
+/// The frames of a machine, of which it keeps those that nobody holds.
+///
+/// A contract sees it as how many frames there are, `total`, and the set of the numbers of those that somebody holds, `out`.
+/// It isn't `Drop`: [`Machine::close`] ends it, once each frame is back. No call but [`Machine::new`] takes memory, and each of
+/// the others but `close` takes constant time.
+pub struct Machine {
+    total: u32,
+    free: Vec<Frame>,
+}
+
+impl Model for Machine {
+    ghost use Rattle.std.specs.Prelude.{vec_capacity};
+    ghost use Rattle.vm_frames.specs.Machine.{MachineView, machine_code};
+    ghost use Rattle.vm_frames.specs.KeptFrames.{machine_of, KeepsFrames};
+
+    ghost Value = { MachineView };
+
+    ghost coded = { machine_code };
+
+    ghost view = { λ m. machine_of m.total m.free.items };
+
+    ghost invariant = { λ m. KeepsFrames m.total (vec_capacity m.free) m.free.items };
+}
+
+impl Machine {
+    /// A machine of `frames` frames, numbered from 0, all of them free and of zeros.
+    ///
+    /// An error says that memory was refused. Nothing is kept then.
+    pub fn new(alloc: Global, frames: u32) -> Result<Machine, AllocError>
+        ensures { IfOk result (λ m. m ≡ record { total = frames; out = set.empty }) }
+    {
+        let mut free = Vec::with_capacity(alloc, frames as usize)?;
+        match fill(alloc, &mut free, frames) {
+            Ok(()) => Ok(Machine {
+                total: frames,
+                free,
+            }),
+            Err(error) => {
+                discard(free);
+                Err(error)
+            }
+        }
+    }
+
+    /// A free frame, with whatever bytes its last holder left, or `None` where somebody holds each of them.
+    pub fn take(&mut self) -> Option<Frame>
+        ensures none { IfNone result (set.len self.old.out ≡ self.old.total) }
+        ensures unchanged { IfNone result (self.new ≡ self.old) }
+
+        ensures in_range { IfSome result (λ f. f.number < self.old.total) }
+        ensures was_free { IfSome result (λ f. set.contains self.old.out f.number ≡ false) }
+        ensures taken { IfSome result (λ f. self.new ≡ record self.old { out = set.insert self.old.out f.number }) }
+    {
+        self.free.pop()
+    }
+
+    /// Takes a frame back.
+    pub fn give(&mut self, frame: Frame)
+        requires { IsTrue (set.contains self.old.out frame.number) }
+        ensures { self.new ≡ record self.old { out = set.remove self.old.out frame.number } }
+    {
+        self.free.push_reserved(frame);
+    }
+
+    /// How many frames are free: with those that somebody holds they are all of the machine's.
+    pub fn free(&self) -> u32
+        ensures { result + set.len self.now.out ≡ self.now.total }
+    {
+        self.free.len() as u32
+    }
+
+    /// How many frames the machine has.
+    pub fn total(&self) -> u32
+        ensures { result ≡ self.now.total }
+    {
+        self.total
+    }
+
+    /// Frees the memory of a machine that has all of its frames.
+    pub fn close(self)
+        requires { set.len self.out ≡ 0 }
+    {
+        let Machine { total: _, free } = self;
+        discard(free);
+    }
+}
+
+// Adds frames of zeros until there are `frames`.
+fn fill(alloc: Global, free: &mut Vec<Frame>, frames: u32) -> Result<(), AllocError>
+    requires empty { free.old.items ≡ [] }
+    requires room { frames ≤ vec_capacity free.old }
+    ensures distinct { OnOk result (AreDistinctIn (numbers_below frames) (numbers_of free.new.items)) }
+    ensures all { OnOk result (without (numbers_below frames) (numbers_of free.new.items) ≡ set.empty) }
+    ensures room { frames ≤ vec_capacity free.new }
+{
+    for number in (0..frames).rev() {
+        let frame = Frame::new(alloc, number)?;
+        free.push_reserved(frame);
+    }
+    Ok(())
+}
+
+// Frees the memory of frames that nobody will use again.
+fn discard(mut frames: Vec<Frame>) {
+    while let Some(frame) = frames.pop() {
+        frame.discard();
+    }
+    frames.destroy_empty();
+}
+
+#[cfg(test)]
+mod tests {
+    use super::*;
+
+    #[test]
+    #[tactic(auto, using(crate::proofs::NumberSets::set_members))]
+    fn each_frame_is_taken_once(rt: HostRuntime) {
+        let mut machine = Machine::new(rt.alloc(), 2).expect(&rt, "memory");
+        let first = machine.take().expect(&rt, "a free frame");
+        let second = machine.take().expect(&rt, "a free frame");
+        assert_eq!(rt; machine.total(), 2);
+        assert_ne!(rt; first.number(), second.number());
+        assert_eq!(rt; machine.free(), 0);
+        machine.give(second);
+        assert_eq!(rt; machine.free(), 1);
+        machine.give(first);
+        assert_eq!(rt; machine.free(), 2);
+        machine.close();
+    }
+}

@@ -1,0 +1,15 @@
+pub mod Config
+pub mod Memory
+pub mod Frames
+pub mod Holding
+pub mod Record
+pub mod Start
+pub mod Touch
+pub mod Steps
+pub mod Epoch
+pub mod Happenings
+pub mod Good
+pub mod View
+pub mod State
+pub mod Activity
+pub mod GuestFields

@@ -1,0 +1,5 @@
+pub mod DomainLemmas
+pub mod SlotLemmas
+pub mod FirstLemmas
+pub mod PartsLemmas
+pub mod WorldLemmas

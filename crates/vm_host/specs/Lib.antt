@@ -1,0 +1,12 @@
+pub mod Domains
+pub mod Machine
+pub mod World
+pub mod Answers
+pub mod Commands
+pub mod Boundary
+pub mod Epoch
+pub mod Readers
+pub mod History
+pub mod Slots
+pub mod Starting
+pub mod Parts

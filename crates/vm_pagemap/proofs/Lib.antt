@@ -1,0 +1,3 @@
+pub mod Resident
+pub mod Places
+pub mod FramesUnder

@@ -1,0 +1,4 @@
+pub mod PageMap
+pub mod FramesUnder
+pub use Rattle.vm_frames.specs.Frame
+pub use Rattle.vm_pages.specs.Pages

@@ -1,0 +1,260 @@
+ghost use Rattle.std.specs.Prelude.{◌≡◌, ◌+◌, ◌<◌, ◌≤◌, length, slice_range, slice_set, slice_index, IfOk};
+ghost use Rattle.vm_pages.specs.Pages.{count, members};
+ghost use Rattle.vm_pagemap.specs.PageMap.{absent_pages, page_at, place_of, bytes_of, resident, written, IsIn, IsNotIn};
+ghost use Rattle.vm_pagemap.specs.declared.page_map.Page.TheVariants.{In, Out, Absent};
+
+use std::alloc::{AllocError, Global};
+use std::marker::Model;
+use std::mem;
+use vm_frames::{Frame, PAGE_BYTES};
+use vm_pages::PageSet;
+
+/// Where a page of a guest is.
+#[derive(Clone, Copy, Debug, PartialEq, Eq)]
+pub enum Place {
+    /// Nowhere: the page reads as zeros.
+    Absent,
+    /// In a frame.
+    In,
+    /// In the guest's swap area.
+    Out,
+}
+
+/// A page of a guest, with its frame where it has one. This is how a contract sees a page of a [`PageMap`].
+pub enum Page {
+    /// Nowhere.
+    Absent,
+    /// In this frame.
+    In(Frame),
+    /// In the guest's swap area, of which the map knows nothing.
+    Out,
+}
+
+/// Where each page of a guest is, with the frames of those that are in: the pmap of Waldspurger, OSDI 2002, section 2.
+///
+/// A contract sees it as the list of its [`Page`]s, and each call that changes one leaves the others as they are. It owns the
+/// frames, so it isn't `Drop`: [`PageMap::close`] ends it, once no page is in. No call but [`PageMap::new`] takes memory.
+/// [`PageMap::resident_at`] passes over one count for each 256 pages and then over 256 pages at most; all other calls but
+/// `close` take constant time, but for the bytes that they copy.
+pub struct PageMap {
+    pages: Vec<Page>,
+    resident: PageSet,
+}
+
+impl Model for PageMap {
+    ghost use Rattle.std.specs.Prelude.{◌≡◌, List};
+    ghost use Rattle.vm_pagemap.specs.declared.page_map.Page.{Page};
+    ghost use Rattle.vm_pagemap.specs.PageMap.{resident as resident_of};
+
+    ghost Value = { List Page };
+
+    ghost view = { λ m. m.pages.items };
+
+    ghost invariant = { λ m. m.resident ≡ resident_of m.pages.items };
+}
+
+impl PageMap {
+    /// The map of a guest of `size` pages, all of them absent.
+    ///
+    /// An error says that memory was refused.
+    pub fn new(alloc: Global, size: u32) -> Result<PageMap, AllocError>
+        ensures { IfOk result (λ m. m ≡ absent_pages size) }
+    {
+        let resident = PageSet::new(alloc, size)?;
+        let mut pages = Vec::with_capacity(alloc, size as usize)?;
+        for _ in 0..size {
+            pages.push_reserved(Page::Absent);
+        }
+        Ok(PageMap { pages, resident })
+    }
+
+    /// Where a page is.
+    pub fn place(&self, page: u32) -> Place
+        requires { page < length self.now }
+        ensures place { result ≡ place_of (page_at self.now page) }
+
+        ensures absent { result ≡ Place.Absent → page_at self.now page ≡ Absent }
+        ensures is_in { result ≡ Place.In → IsIn (page_at self.now page) }
+        ensures out { result ≡ Place.Out → page_at self.now page ≡ Out }
+    {
+        match self.pages[page as usize] {
+            Page::Absent => Place::Absent,
+            Page::In(_) => Place::In,
+            Page::Out => Place::Out,
+        }
+    }
+
+    /// Copies bytes of a page that is in, from `offset` on.
+    pub fn read(&self, page: u32, offset: usize, bytes: &mut [u8])
+        requires in_range { page < length self.now }
+        requires is_in { IsIn (page_at self.now page) }
+        requires within { offset + length bytes.old ≤ PAGE_BYTES }
+        ensures { bytes.new ≡ slice_range (bytes_of (page_at self.now page)) offset (offset + length bytes.old) }
+    {
+        let Page::In(frame) = &self.pages[page as usize] else {
+            unreachable!()
+        };
+        bytes.copy_from_slice(&frame.bytes()[offset..offset + bytes.len()]);
+    }
+
+    /// Writes bytes to a page that is in, from `offset` on. Its other bytes stay, and it keeps its frame.
+    pub fn write(&mut self, page: u32, offset: usize, bytes: &[u8])
+        requires in_range { page < length self.old }
+        requires is_in { IsIn (page_at self.old page) }
+        requires within { offset + length bytes.now ≤ PAGE_BYTES }
+        ensures { self.new ≡ slice_set self.old page (written (page_at self.old page) offset bytes.now) }
+    {
+        write_framed(&mut self.pages[page as usize], offset, bytes);
+    }
+
+    /// Puts a page into a frame, which it then reads as. The frame's bytes are those that it has.
+    pub fn put_frame(&mut self, page: u32, frame: Frame)
+        requires in_range { page < length self.old }
+        requires not_in { IsNotIn (page_at self.old page) }
+        ensures { self.new ≡ slice_set self.old page (In frame) }
+    {
+        self.resident.insert(page);
+        replace_unframed(&mut self.pages[page as usize], Page::In(frame));
+    }
+
+    /// Takes a page's frame from it, with its bytes. The page is absent then.
+    pub fn remove_frame(&mut self, page: u32) -> Frame
+        requires in_range { page < length self.old }
+        requires is_in { IsIn (page_at self.old page) }
+        ensures frame { page_at self.old page ≡ In result }
+        ensures absent { self.new ≡ slice_set self.old page Absent }
+    {
+        self.resident.remove(page);
+        match mem::replace(&mut self.pages[page as usize], Page::Absent) {
+            Page::In(frame) => frame,
+            Page::Absent | Page::Out => unreachable!(),
+        }
+    }
+
+    /// Says that a page without a frame is in the swap area.
+    pub fn mark_out(&mut self, page: u32)
+        requires in_range { page < length self.old }
+        requires not_in { IsNotIn (page_at self.old page) }
+        ensures { self.new ≡ slice_set self.old page Out }
+    {
+        replace_unframed(&mut self.pages[page as usize], Page::Out);
+    }
+
+    /// Says that a page without a frame is nowhere.
+    pub fn mark_absent(&mut self, page: u32)
+        requires in_range { page < length self.old }
+        requires not_in { IsNotIn (page_at self.old page) }
+        ensures { self.new ≡ slice_set self.old page Absent }
+    {
+        replace_unframed(&mut self.pages[page as usize], Page::Absent);
+    }
+
+    /// How many pages are in.
+    pub fn resident(&self) -> u32
+        ensures { result ≡ count (resident self.now) }
+    {
+        self.resident.len()
+    }
+
+    /// The k-th of the pages that are in, in rising order and counted from 0, whatever the order in which they came in.
+    pub fn resident_at(&self, k: u32) -> u32
+        requires { k < count (resident self.now) }
+        ensures listed { result ≡ slice_index (members (resident self.now)) k }
+        ensures in_range { result < length self.now }
+        ensures is_in { IsIn (page_at self.now result) }
+    {
+        self.resident.nth(k)
+    }
+
+    /// Ends a map with no page in.
+    pub fn close(self)
+        requires { count (resident self) ≡ 0 }
+    {
+        let PageMap {
+            mut pages,
+            resident: _,
+        } = self;
+        while let Some(page) = pages.pop() {
+            match page {
+                Page::Absent | Page::Out => {}
+                Page::In(_frame) => unreachable!(),
+            }
+        }
+        pages.destroy_empty();
+    }
+}
+
+// Puts another page in the place of one that has no frame.
+fn replace_unframed(page: &mut Page, new: Page)
+    requires { IsNotIn page.old }
+    ensures { page.new ≡ new }
+{
+    match mem::replace(page, new) {
+        Page::Absent | Page::Out => {}
+        Page::In(_frame) => unreachable!(),
+    }
+}
+
+// Writes bytes to the frame of a page that is in.
+fn write_framed(page: &mut Page, offset: usize, bytes: &[u8])
+    requires is_in { IsIn page.old }
+    requires within { offset + length bytes.now ≤ PAGE_BYTES }
+    ensures { page.new ≡ written page.old offset bytes.now }
+{
+    let Page::In(frame) = page else {
+        unreachable!()
+    };
+    frame.bytes_mut()[offset..offset + bytes.len()].copy_from_slice(bytes);
+}
+
+#[cfg(test)]
+mod tests {
+    use super::*;
+    use vm_frames::Machine;
+
+    #[test]
+    fn pages_are_listed_in_order(rt: HostRuntime) {
+        let mut machine = Machine::new(rt.alloc(), 2).expect(&rt, "memory");
+        let mut map = PageMap::new(rt.alloc(), 8).expect(&rt, "memory");
+        let first = machine.take().expect(&rt, "a free frame");
+        let second = machine.take().expect(&rt, "a free frame");
+        map.put_frame(5, first);
+        map.put_frame(2, second);
+        assert_eq!(rt; map.resident(), 2);
+        assert_eq!(rt; [map.resident_at(0), map.resident_at(1)], [2, 5]);
+        let first = map.remove_frame(5);
+        assert_eq!(rt; map.resident_at(0), 2);
+        let second = map.remove_frame(2);
+        machine.give(first);
+        machine.give(second);
+        map.close();
+        assert_eq!(rt; machine.free(), machine.total());
+        machine.close();
+    }
+
+    #[test]
+    fn pages_come_and_go(rt: HostRuntime) {
+        let mut machine = Machine::new(rt.alloc(), 1).expect(&rt, "memory");
+        let mut map = PageMap::new(rt.alloc(), 4).expect(&rt, "memory");
+        if let Some(frame) = machine.take() {
+            map.put_frame(2, frame);
+            map.write(2, 4094, &[7, 8]);
+            let mut bytes = [0; 3];
+            map.read(2, 4093, &mut bytes);
+            assert_eq!(rt; bytes, [0, 7, 8]);
+            assert_eq!(rt; map.place(2), Place::In);
+            assert_eq!(rt; map.resident(), 1);
+            assert_eq!(rt; map.resident_at(0), 2);
+            let frame = map.remove_frame(2);
+            map.mark_out(2);
+            assert_eq!(rt; map.place(2), Place::Out);
+            map.mark_absent(2);
+            machine.give(frame);
+        }
+        assert_eq!(rt; map.resident(), 0);
+        assert_eq!(rt; map.place(2), Place::Absent);
+        map.close();
+        assert_eq!(rt; machine.free(), 1);
+        machine.close();
+    }
+}

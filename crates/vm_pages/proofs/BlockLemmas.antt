@@ -1,0 +1,113 @@
+-- The counts of the blocks, after one flag has changed.
+use Rattle.std.proofs.Common.{◌≡◌, ℕ, zero, suc, ◌+◌, ◌-◌, ◌*◌, ◌/◌, ◌<◌, ◌≤◌, Bool, true, false, cond, List, length, take, set, get_or, sum, Fits, w32, refl, sym, ap, ◌∙◌, inl, inr, add-one, arith}
+use Rattle.std.proofs.lemmas.List.{take_all, get_or_read, length-set, get_or-set_other, get_or-set_same}
+use Rattle.std.proofs.lemmas.Bool.{cases_eq, cases_lt}
+use Rattle.std.proofs.lemmas.List.Sums.{sum_by_more, sum_by-set, get_or-le-sum_by}
+use Rattle.vm_pages.specs.Pages.{count, count_below}
+use Rattle.vm_pages.specs.Blocks.{AreCounted}
+use Rattle.vm_pages.proofs.PageSets.{count-lt-length}
+use Rattle.vm_pages.proofs.Listings.{count_below-set, count_below-set_before, count_below_mono}
+
+abbrev weight : Bool → ℕ
+weight marked = cond marked 1 0
+
+-- below a block stand as many as the counts before it say
+pub sum-counts : (pages : List Bool) (counts : List ℕ) (len block : ℕ) → AreCounted pages counts len → block ≤ length counts → sum (take block counts) ≡ count_below pages (block * 256)
+sum-counts pages counts len zero counted few = refl
+sum-counts pages counts len (suc block) counted few =
+    let here : block < length counts = omega arith in
+    rw (← add-one) (omega (arith, sum_by_more (λ n. n) counts block 0 here, sum-counts pages counts len block counted (omega arith), counted.each block here))
+
+-- the counts of all blocks make up the set's
+pub sum-all_counts : (pages : List Bool) (counts : List ℕ) (len : ℕ) → AreCounted pages counts len → sum counts ≡ count pages
+sum-all_counts pages counts len counted =
+    let whole = sum-counts pages counts len (length counts) counted (omega arith) in
+    rw (take_all (length counts) counts (omega arith), take_all (length counts * 256) pages counted.blocks) at whole
+
+-- a mark that changes with the count of its block and the set's length
+pub AreCounted-set : (pages : List Bool) (counts : List ℕ) (len page n len' : ℕ) (mark : Bool) → AreCounted pages counts len → page < length pages
+    → n + weight (get_or pages page false) ≡ get_or counts (page / 256) 0 + weight mark
+    → len' + weight (get_or pages page false) ≡ len + weight mark
+    → AreCounted (set pages page mark) (set counts (page / 256) n) len'
+AreCounted-set pages counts len page n len' mark counted there block_is len_is = record {
+  blocks = simp length-set counted.blocks;
+  few = simp length-set counted.few;
+  each = λ block within. each_after block (simp length-set at within);
+  all = omega (arith, counted.all, sum_by-set weight pages page mark false there);
+  fits = simp length-set counted.fits;
+}
+  where
+    slot : page / 256 < length counts
+    slot = omega (arith, counted.blocks)
+
+    changed : {block : ℕ} → block ≡ page / 256 → get_or (set counts (page / 256) n) block 0 ≡ n
+    changed same = rw same (get_or-set_same counts (page / 256) n 0 slot)
+
+    each_after : (block : ℕ) → block < length counts → count_below (set pages page mark) (block * 256) + get_or (set counts (page / 256) n) block 0 ≡ count_below (set pages page mark) ((block + 1) * 256)
+    each_after block within =
+        elim (cases_eq block (page / 256)) [
+          | inl same ↦
+              omega (arith, block_is, counted.each block within, count_below-set_before pages page (block * 256) mark (omega arith), count_below-set pages page ((block + 1) * 256) mark there (omega arith), changed same, ap (λ b. get_or counts b 0) same)
+          | inr other ↦
+              elim (cases_lt block (page / 256)) [
+                | inl before ↦ omega (arith, counted.each block within, get_or-set_other counts (page / 256) block n 0 other, count_below-set_before pages page (block * 256) mark (omega arith), count_below-set_before pages page ((block + 1) * 256) mark (omega arith))
+                | inr after ↦ omega (arith, counted.each block within, get_or-set_other counts (page / 256) block n 0 other, count_below-set pages page (block * 256) mark there (omega arith), count_below-set pages page ((block + 1) * 256) mark there (omega arith))
+              ]
+        ]
+
+pub block-le-count : (pages : List Bool) (counts : List ℕ) (len block : ℕ) → AreCounted pages counts len → block < length counts → get_or counts block 0 ≤ count pages
+block-le-count pages counts len block counted within =
+    omega (arith, get_or-le-sum_by (λ n. n) counts block 0 within, sum-all_counts pages counts len counted)
+
+-- the block of a page that is in the set counts it
+pub block-positive : (pages : List Bool) (counts : List ℕ) (len page : ℕ) → AreCounted pages counts len → page < length pages → get_or pages page false ≡ true → 1 ≤ get_or counts (page / 256) 0
+block-positive pages counts len page counted there marked =
+    let fewer = rw marked at (count_below-set pages page ((page / 256 + 1) * 256) false there (omega arith)) in
+    omega (arith, fewer, counted.each (page / 256) (omega (arith, counted.blocks)), count_below-set_before pages page (page / 256 * 256) false (omega arith), count_below_mono (set pages page false) (page / 256 * 256) ((page / 256 + 1) * 256) (omega arith))
+
+-- what a set keeps when a page of mark `m`, in a block of count `n`, comes in or leaves
+pub record Inserted (pages : List Bool) (counts : List ℕ) (len page n : ℕ) : Type 0 where
+  pub count_fits : Fits w32 (n + 1)
+  pub len_fits : Fits w32 (len + 1)
+  pub counted : AreCounted (set pages page true) (set counts (page / 256) (n + 1)) (len + 1)
+
+pub inserted : (pages : List Bool) (counts : List ℕ) (len page n : ℕ) (m : Bool) → AreCounted pages counts len → page < length pages → m ≡ get_or pages page m → m ≡ false → n ≡ get_or counts (page / 256) n → Inserted pages counts len page n
+inserted pages counts len page n m counted there m_read unmarked n_read = record {
+  count_fits = omega (arith, room, counted.fits, n_is, block-le-count pages counts len (page / 256) counted slot);
+  len_fits = omega (arith, room, counted.fits, counted.all);
+  counted = AreCounted-set pages counts len page (n + 1) (len + 1) true counted there (rw absent (omega (arith, n_is))) (rw absent (omega arith));
+}
+  where
+    slot : page / 256 < length counts
+    slot = omega (arith, counted.blocks)
+
+    absent : get_or pages page false ≡ false
+    absent = sym (get_or_read pages page m there m_read false) ∙ unmarked
+
+    n_is : n ≡ get_or counts (page / 256) 0
+    n_is = get_or_read counts (page / 256) n slot n_read 0
+
+    room : count pages < length pages
+    room = count-lt-length pages page there absent
+
+pub record Removed (pages : List Bool) (counts : List ℕ) (len page n : ℕ) : Type 0 where
+  pub counts_it : 1 ≤ n
+  pub counted : AreCounted (set pages page false) (set counts (page / 256) (n - 1)) (len - 1)
+
+pub removed : (pages : List Bool) (counts : List ℕ) (len page n : ℕ) (m : Bool) → AreCounted pages counts len → page < length pages → m ≡ get_or pages page m → m ≡ true → n ≡ get_or counts (page / 256) n → Removed pages counts len page n
+removed pages counts len page n m counted there m_read marked n_read = record {
+  counts_it = rw n_is positive;
+  counted = AreCounted-set pages counts len page (n - 1) (len - 1) false counted there (rw present (omega (arith, n_is, positive))) (rw present (omega (arith, positive, n_is, counted.all, block-le-count pages counts len (page / 256) counted slot)));
+}
+  where
+    slot : page / 256 < length counts
+    slot = omega (arith, counted.blocks)
+
+    present : get_or pages page false ≡ true
+    present = sym (get_or_read pages page m there m_read false) ∙ marked
+
+    n_is : n ≡ get_or counts (page / 256) 0
+    n_is = get_or_read counts (page / 256) n slot n_read 0
+
+    positive : 1 ≤ get_or counts (page / 256) 0
+    positive = block-positive pages counts len page counted there present

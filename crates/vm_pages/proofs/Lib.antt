@@ -1,0 +1,3 @@
+mod BlockLemmas
+pub mod PageSets
+pub mod Listings

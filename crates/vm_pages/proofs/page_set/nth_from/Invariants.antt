@@ -1,0 +1,6 @@
+use Rattle.std.proofs.Common.{◌≡◌, ◌+◌}
+use Rattle.vm_pages.specs.Pages.{count_below}
+use Rattle.vm_pages.proofs.page_set.nth_from.Given as goal
+
+abbrev pub invariant-loop-page : goal.invariant-loop-page
+invariant-loop-page l = count_below l.marks l.page + l.left ≡ count_below l.marks l.start + l.k

@@ -1,0 +1,29 @@
+//! What a host does about memory: its state, which guests give pages up, and which get more.
+//!
+//! The rules are those of Waldspurger, "Memory Resource Management in VMware ESX Server" (OSDI 2002), in this project's
+//! profile: min-funding revocation with a tax on idle memory (sections 5.1 and 5.2), and four states by the free frames
+//! (section 6.3). Everything is decided from plain numbers: a row for each guest, thresholds, and the number of free frames.
+#![tactic(auto)]
+
+mod grants;
+mod laws;
+mod paging;
+mod plan;
+mod revocation;
+mod row;
+mod scan;
+mod state;
+#[cfg(test)]
+mod tests;
+mod thresholds;
+mod tracking;
+
+pub use grants::grant;
+pub use laws::{law_grant_list, law_revocation_list, law_scales};
+pub use paging::{is_blocked, page_count};
+pub use plan::Plan;
+pub use revocation::revoke;
+pub use row::PlanRow;
+pub use scan::least;
+pub use state::{State, next_state};
+pub use thresholds::{Percents, Thresholds};

@@ -1,0 +1,92 @@
+//! Which guests have to give pages up.
+ghost use Rattle.std.specs.Prelude.{◌≡◌, ℕ, ◌<◌, ◌≤◌, All, IfOk, IfSome, length, slice_get};
+ghost use Rattle.vm_tax.specs.Ratio.{hundredths};
+ghost use Rattle.vm_plan.specs.Moves.{EachMove};
+ghost use Rattle.vm_plan.specs.PlanRow.{rows_of};
+ghost use Rattle.vm_plan.specs.Revocation.{shortfall_of, revoked_row, rows_after, IsRevocable, IsRevocationList, revocation_list};
+ghost use Rattle.vm_plan.specs.Row.{change_at};
+ghost use Rattle.vm_plan.specs.Track.{IsTracked};
+
+use crate::plan::Plan;
+use crate::row::PlanRow;
+use crate::state::State;
+use crate::thresholds::Thresholds;
+use crate::tracking::track;
+use std::alloc::{AllocError, Global};
+use vm_tax::Winners;
+
+/// How many revocations the goal wants.
+fn shortfall(state: State, free: u32, thresholds: &Thresholds, rows: &[PlanRow]) -> u64
+    requires few { length rows.now ≤ 256 }
+    requires held { All (λ row. row.target ≤ row.held) rows.now }
+    ensures { result ≡ shortfall_of state free thresholds.now (rows_of rows.now) }
+{
+    if state == State::High {
+        return 0;
+    }
+    let coming: u64 = rows
+        .iter()
+        .map(|row| u64::from(row.held - row.target))
+        .sum();
+    u64::from(thresholds.goal)
+        .saturating_sub(u64::from(free))
+        .saturating_sub(coming)
+}
+
+/// Takes one page from a guest above its minimum.
+fn take_page(tax: u32, rows: &mut [PlanRow], winners: &mut Winners, position: u32)
+    requires tax { tax ≤ 9999 }
+    requires within { position < length rows.old }
+    requires above { IfSome (slice_get rows.old position) (λ row. row.min < row.target) }
+    requires tracked { IsTracked tax winners.old (rows_of rows.old) }
+    ensures taken { rows_of rows.new ≡ change_at revoked_row (rows_of rows.old) position }
+    ensures tracked { IsTracked tax winners.new (rows_of rows.new) }
+{
+    let row = &mut rows[position as usize];
+    row.target -= 1;
+    winners.set(position, row.revocable_price(tax));
+}
+
+/// The revocations that a state asks for, one page each, from the least price up: min-funding revocation (Waldspurger, OSDI
+/// 2002, sections 5.1 and 5.2).
+///
+/// `free` is the number of free frames, and `tax` is in hundredths of a percent. The plan has as many entries as frames are
+/// missing to the goal, beside those free and those that guests hold above their targets; fewer only where no guest is above
+/// its minimum any more. In High it is empty. An entry costs a logarithm of the number of rows. The only error is a want of
+/// memory.
+pub fn revoke(
+    alloc: Global,
+    state: State,
+    free: u32,
+    thresholds: &Thresholds,
+    tax: u32,
+    rows: &[PlanRow],
+) -> Result<Plan, AllocError>
+    requires few { length rows.now ≤ 256 }
+    requires tax { tax ≤ 9999 }
+    requires held { All (λ row. row.target ≤ row.held) rows.now }
+    ensures list { let wanted = shortfall_of state free thresholds.now (rows_of rows.now) in
+        IfOk result (IsRevocationList (hundredths tax) wanted (rows_of rows.now)) }
+
+    // The same list, as a function of the arguments.
+    ensures exact { let wanted = shortfall_of state free thresholds.now (rows_of rows.now) in
+        IfOk result (λ plan. plan ≡ revocation_list (hundredths tax) wanted (rows_of rows.now)) }
+
+    // Each entry can be taken where it stands.
+    ensures within { IfOk result (All (λ position. position < length rows.now)) }
+    ensures applies { IfOk result
+        (EachMove (λ before position. IsRevocable (rows_after (rows_of rows.now) before) position)) }
+{
+    let wanted = shortfall(state, free, thresholds, rows);
+    let mut after = Vec::from_slice(alloc, rows)?;
+    let mut winners = track(alloc, tax, rows)?;
+    let mut moves = Vec::new(alloc);
+    for _turn in 0..wanted {
+        let Some(position) = winners.least() else {
+            break;
+        };
+        take_page(tax, &mut after, &mut winners, position);
+        moves.push(position)?;
+    }
+    Ok(Plan::new(moves))
+}

@@ -1,0 +1,16 @@
+pub mod Outcomes
+pub mod ConfigErrors
+pub mod Streams
+pub mod Names
+pub mod Keys
+pub mod Seen
+pub mod Trace
+pub mod Reading
+pub mod Named
+pub mod Limits
+pub mod Lines
+pub mod Course
+pub mod Report
+pub mod RunErrors
+pub mod Run
+pub mod LastWrites

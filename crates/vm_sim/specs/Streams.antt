@@ -1,0 +1,12 @@
+-- When a write is refused, and what was written by then.
+use Rattle.std.specs.Prelude.{ℕ, ◌==◌, ◌&&◌, List, length, take, Bool, true, not, Option, Result, Ok, Err}
+use Rattle.std.specs.Io.KnownBytes.{Appends}
+
+-- whether a write of these bytes was refused: by an error, or by taking nothing where there was something
+abbrev pub refuses : {E : Type 0} → Result ℕ E → List ℕ → Bool
+refuses (Ok taken) bytes = (taken == 0) && not (length bytes == 0)
+refuses (Err e) bytes = true
+
+-- a front of the text was appended, and nothing else
+abbrev pub AppendsFront : Option (List ℕ) → Option (List ℕ) → List ℕ → Type 0
+AppendsFront old new text = (count : ℕ) × Appends old new (take count text)

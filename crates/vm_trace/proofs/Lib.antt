@@ -1,0 +1,7 @@
+pub mod Gathered
+pub mod Hex
+pub mod Numbers
+pub mod Padding
+pub mod ReadIsSpelled
+pub mod SpelledIsRead
+pub mod WordCounts

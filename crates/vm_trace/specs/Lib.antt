@@ -1,0 +1,6 @@
+pub mod Bytes
+pub mod Limits
+pub mod Meaning
+pub mod Spelling
+pub mod TraceError
+pub mod Words

@@ -1,0 +1,112 @@
+// The bytes of a step, and how hexadecimal digits spell them.
+ghost use Rattle.std.specs.Prelude.{◌≡◌, ◌↔◌, ◌*◌, ◌≤◌, ◌<◌, [], length, nat_lt, true, IsTrue};
+ghost use Rattle.std.specs.List.{list_all};
+ghost use Rattle.std.specs.Char.{digit_value};
+ghost use Rattle.vm_trace.specs.Words.{is_hex, hex_pairs};
+
+use std::marker::Model;
+
+/// The most bytes that a step has.
+pub const MAX_BYTES: usize = 64;
+
+/// At most 64 bytes, which lie in place. A clause reads them as a list.
+#[derive(Clone, Copy, Debug, PartialEq, Eq)]
+pub struct Bytes {
+    len: u8,
+    buffer: [u8; MAX_BYTES],
+}
+
+impl Model for Bytes {
+    ghost use Rattle.std.specs.Prelude.{ℕ, List, take};
+
+    ghost Value = { List ℕ };
+
+    ghost use Rattle.vm_trace.specs.Bytes.{padded, IsPadded, padded-take};
+
+    ghost view = { λ b. take b.len b.buffer };
+
+    // The rest of the buffer is zeros, so that equal bytes have equal buffers.
+    ghost invariant = { IsPadded };
+
+    ghost inverse = { padded };
+
+    ghost inverse_ok = { padded-take };
+}
+
+impl Bytes {
+    /// The bytes of a slice.
+    pub fn from_slice(bytes: &[u8]) -> Self
+        requires { length bytes.now ≤ MAX_BYTES }
+        ensures { result ≡ bytes.now }
+    {
+        let mut buffer = [0; MAX_BYTES];
+        buffer[..bytes.len()].copy_from_slice(bytes);
+        Bytes {
+            len: bytes.len() as u8,
+            buffer,
+        }
+    }
+
+    /// The bytes, in order.
+    pub fn as_slice(&self) -> &[u8]
+        ensures { result.now ≡ self.now }
+    {
+        &self.buffer[..self.len as usize]
+    }
+
+    /// How many bytes there are.
+    pub fn len(&self) -> usize
+        ensures count { result ≡ length self.now }
+        ensures few { result ≤ MAX_BYTES }
+    {
+        self.len as usize
+    }
+
+    /// Whether there is no byte.
+    pub fn is_empty(&self) -> bool
+        ensures { IsTrue result ↔ (self.now ≡ []) }
+    {
+        self.len == 0
+    }
+
+    // The bytes that hexadecimal digits spell.
+    pub(crate) fn from_hex(word: &str) -> Self
+        requires digits { is_hex word.now ≡ true }
+        requires fits { length word.now ≤ 2 * MAX_BYTES }
+        ensures { result ≡ hex_pairs word.now }
+    {
+        let digits = word.as_bytes();
+        let len = digits.len() / 2;
+        let mut buffer = [0; MAX_BYTES];
+        for i in 0..len {
+            buffer[i] = 16 * hex_value(digits[2 * i]) + hex_value(digits[2 * i + 1]);
+        }
+        Bytes {
+            len: len as u8,
+            buffer,
+        }
+    }
+}
+
+// Whether a word is an even number of hexadecimal digits.
+pub(crate) fn is_hex(word: &str) -> bool
+    ensures { result ≡ is_hex word.now }
+{
+    word.len() % 2 == 0 && is_hexadecimal(word)
+}
+
+fn is_hexadecimal(word: &str) -> bool
+    ensures { result ≡ list_all (λ c. nat_lt (digit_value c) 16) word.now }
+{
+    word.as_bytes()
+        .iter()
+        .all(|byte| char::from(*byte).is_digit(16))
+}
+
+// The value of a hexadecimal digit.
+fn hex_value(digit: u8) -> u8
+    requires { digit_value digit < 16 }
+    ensures { result ≡ digit_value digit }
+{
+    char::from(digit).to_digit(16).unwrap() as u8
+}

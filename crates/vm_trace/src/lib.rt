@@ -1,0 +1,20 @@
+//! The steps of a guest's trace, and how they are read from text.
+//!
+//! A [`Step`] keeps its limits in its type: whoever has one knows that its bytes lie in one page of a guest of
+//! the greatest size. [`parse_step_within`] reads one, and a [`Trace`] is a list of them.
+#![tactic(auto)]
+
+mod bytes;
+mod error;
+mod parse;
+mod step;
+mod trace;
+
+pub use bytes::{Bytes, MAX_BYTES};
+pub use error::TraceError;
+pub use parse::{parse_step, parse_step_within};
+pub use step::{Action, Queue, Step};
+pub use trace::Trace;
+
+#[cfg(test)]
+mod tests;

@@ -1,0 +1,228 @@
+// Reads a step from its text.
+ghost use Rattle.std.specs.Prelude.{◌≡◌, ◌≤◌, map, IfOk, Ok};
+ghost use Rattle.vm_trace.specs.declared.step.Step.{Step};
+ghost use Rattle.vm_trace.specs.Limits.{IsWithin};
+ghost use Rattle.vm_trace.specs.Spelling.{IsSpelled};
+ghost use Rattle.std.specs.List.{list_all};
+ghost use Rattle.std.specs.Char.{is_ascii_digit};
+ghost use Rattle.vm_trace.specs.Words.{is_number, number_of, number_in, bytes_in};
+ghost use Rattle.vm_trace.specs.Meaning.{read_step, write_step, free_step, queue_of, post_step, step_of_words, step_within};
+
+use crate::bytes::{Bytes, MAX_BYTES, is_hex};
+use crate::error::TraceError;
+use crate::step::{Action, Queue, Step};
+
+// The bytes of a page.
+const PAGE_BYTES: u32 = 4096;
+
+// The most bytes that a step reads or writes.
+const MAX_ACCESS: u32 = 16;
+
+// The most words that a step has.
+const MAX_WORDS: usize = 4;
+
+// The most digits that a number has.
+const MAX_DIGITS: usize = 10;
+
+/// Reads a step of a guest with 65536 pages, as [`parse_step_within`] does.
+pub fn parse_step(text: &str) -> Result<Step, TraceError>
+    ensures exact { result ≡ step_within 65536 text.now }
+    ensures within { IfOk result (IsWithin 65536) }
+{
+    parse_step_within(text, 65536)
+}
+
+/// Reads a step of a guest with this many pages, of which words are separated by single spaces:
+///
+/// | Step | Words |
+/// |---|---|
+/// | [`Action::Read`] | `r PAGE OFFSET LEN` |
+/// | [`Action::Write`] | `w PAGE OFFSET HEX` |
+/// | [`Action::Free`] | `f PAGE` |
+/// | [`Action::Idle`] | `i` |
+/// | [`Action::Post`] | `p QUEUE HEX`, where QUEUE is `i`, `d` or `s` |
+///
+/// Numbers are decimal, and two hexadecimal digits in either case are a byte. The error is
+/// [`TraceError::Unknown`] where it stands, and else that of the first faulty word from left to right; that the
+/// bytes go beyond the page is looked for last.
+pub fn parse_step_within(text: &str, pages: u32) -> Result<Step, TraceError>
+    requires some { 1 ≤ pages }
+    requires few { pages ≤ 262144 }
+    ensures exact { result ≡ step_within pages text.now }
+    ensures within { IfOk result (IsWithin pages) }
+
+    // What is read spells the step, and what spells a step is read as that step.
+    ensures spelled { IfOk result (IsSpelled pages text.now) }
+    ensures accepts { (step : Step) → IsSpelled pages text.now step → result ≡ Ok step }
+{
+    let action = action_of(text, pages)?;
+    Ok(Step::new(action))
+}
+
+// The action that a text is.
+fn action_of(text: &str, pages: u32) -> Result<Action, TraceError>
+    requires { 1 ≤ pages }
+    ensures { result ≡ step_within pages text.now }
+{
+    let mut words = [""; MAX_WORDS];
+    let mut count = 0;
+    for word in text.split(' ') {
+        if word.is_empty() || count == MAX_WORDS {
+            return Err(TraceError::Unknown);
+        }
+        words[count] = word;
+        count += 1;
+    }
+    action_of_words(&words[..count], pages)
+}
+
+// Whether a word is 1 to 10 decimal digits.
+fn is_number(word: &str) -> bool
+    ensures { result ≡ is_number word.now }
+{
+    1 <= word.len() && word.len() <= MAX_DIGITS && is_decimal(word)
+}
+
+fn is_decimal(word: &str) -> bool
+    ensures { result ≡ list_all is_ascii_digit word.now }
+{
+    word.as_bytes().iter().all(|byte| byte.is_ascii_digit())
+}
+
+// The number that a word is.
+fn number(word: &str) -> Result<u64, TraceError>
+    ensures { result ≡ number_of word.now }
+{
+    if !is_number(word) {
+        return Err(TraceError::Number);
+    }
+    word.parse().map_err(|_| TraceError::Number)
+}
+
+// The number that a word is, from `low` up to `high`.
+#[tactic(auto, unfolding(crate::specs::Words::number_in))]
+fn number_in(word: &str, low: u32, high: u32) -> Result<u32, TraceError>
+    ensures value { result ≡ number_in low high word.now }
+    ensures bound { IfOk result (λ n. n ≤ high) }
+{
+    let number = number(word)?;
+    if u64::from(low) <= number && number <= u64::from(high) {
+        Ok(number as u32)
+    } else {
+        Err(TraceError::Range)
+    }
+}
+
+// The bytes that a word spells, at most `limit` of them.
+#[tactic(auto, unfolding(crate::specs::Words::bytes_in))]
+fn bytes_in(word: &str, limit: usize) -> Result<Bytes, TraceError>
+    requires { limit ≤ MAX_BYTES }
+    ensures { result ≡ bytes_in limit word.now }
+{
+    if !is_hex(word) {
+        return Err(TraceError::Hex);
+    }
+    if word.len() / 2 > limit {
+        return Err(TraceError::Length);
+    }
+    Ok(Bytes::from_hex(word))
+}
+
+// r PAGE OFFSET LEN
+#[tactic(auto, unfolding(crate::specs::Meaning::read_step))]
+fn read(page: &str, offset: &str, len: &str, pages: u32) -> Result<Action, TraceError>
+    requires { 1 ≤ pages }
+    ensures { result ≡ read_step pages page.now offset.now len.now }
+{
+    let page = number_in(page, 0, pages - 1)?;
+    let offset = number_in(offset, 0, PAGE_BYTES - 1)?;
+    let len = number_in(len, 1, MAX_ACCESS)?;
+    if offset + len > PAGE_BYTES {
+        return Err(TraceError::Range);
+    }
+    Ok(Action::Read {
+        page,
+        offset: offset as u16,
+        len: len as u8,
+    })
+}
+
+// w PAGE OFFSET HEX
+#[tactic(auto, unfolding(crate::specs::Meaning::write_step))]
+fn write(page: &str, offset: &str, hex: &str, pages: u32) -> Result<Action, TraceError>
+    requires { 1 ≤ pages }
+    ensures { result ≡ write_step pages page.now offset.now hex.now }
+{
+    let page = number_in(page, 0, pages - 1)?;
+    let offset = number_in(offset, 0, PAGE_BYTES - 1)?;
+    let bytes = bytes_in(hex, MAX_ACCESS as usize)?;
+    if offset + bytes.len() as u32 > PAGE_BYTES {
+        return Err(TraceError::Range);
+    }
+    Ok(Action::Write {
+        page,
+        offset: offset as u16,
+        bytes,
+    })
+}
+
+// f PAGE
+#[tactic(auto, unfolding(crate::specs::Meaning::free_step))]
+fn free(page: &str, pages: u32) -> Result<Action, TraceError>
+    requires { 1 ≤ pages }
+    ensures { result ≡ free_step pages page.now }
+{
+    let page = number_in(page, 0, pages - 1)?;
+    Ok(Action::Free { page })
+}
+
+// The queue of a letter.
+#[tactic(auto, unfolding(crate::specs::Meaning::queue_of))]
+fn queue_of(letter: &str) -> Result<Queue, TraceError>
+    ensures { result ≡ queue_of letter.now }
+{
+    match letter {
+        "i" => Ok(Queue::Inflate),
+        "d" => Ok(Queue::Deflate),
+        "s" => Ok(Queue::Stats),
+        _ => Err(TraceError::Unknown),
+    }
+}
+
+// p QUEUE HEX
+#[tactic(auto, unfolding(crate::specs::Meaning::post_step))]
+fn post(queue: &str, hex: &str) -> Result<Action, TraceError>
+    ensures { result ≡ post_step queue.now hex.now }
+{
+    let queue = queue_of(queue)?;
+    let bytes = bytes_in(hex, MAX_BYTES)?;
+    Ok(Action::Post { queue, bytes })
+}
+
+// The action that these words are.
+#[tactic(auto, unfolding(crate::specs::Meaning::step_of_words))]
+fn action_of_words(words: &[&str], pages: u32) -> Result<Action, TraceError>
+    requires { 1 ≤ pages }
+    ensures { result ≡ step_of_words pages (map (λ word. word.now) words.now) }
+{
+    match *words {
+        [kind] => match kind {
+            "i" => Ok(Action::Idle),
+            _ => Err(TraceError::Unknown),
+        },
+        [kind, page] => match kind {
+            "f" => free(page, pages),
+            _ => Err(TraceError::Unknown),
+        },
+        [kind, queue, hex] => match kind {
+            "p" => post(queue, hex),
+            _ => Err(TraceError::Unknown),
+        },
+        [kind, page, offset, last] => match kind {
+            "r" => read(page, offset, last, pages),
+            "w" => write(page, offset, last, pages),
+            _ => Err(TraceError::Unknown),
+        },
+        _ => Err(TraceError::Unknown),
+    }
+}
