@@ -11,50 +11,50 @@ use Rattle.vm_commands.specs.SizeGrammar.{units}
 use Rattle.vm_commands.specs.Sizes.{is_named, unit_of}
 use Rattle.vm_commands.proofs.Choices.{chosen, either}
 
--- a suffix that has the name of a row has its unit
+-- a suffix that has the name of an entry has its unit
 unit_row : (suffix : List ℕ) (u : ℕ) (k unit : ℕ) (name : List ℕ) → nat_lt k (length units) ≡ true → slice_index_or units k (name, unit) ≡ (name, unit) → is_named suffix name ≡ true → Some unit ≡ Some u → Contains units (map to_ascii_lowercase suffix, u)
-unit_row suffix u k unit name below row named same =
+unit_row suffix u k unit name below entry named same =
     let name_is = (bytes_decides (map to_ascii_lowercase suffix) name).0 named in
     let unit_is : unit ≡ u = cc in
-    subst (Contains units) (λ i. (sym name_is i, unit_is i)) (k, ltb-true k (length units) below, row)
+    subst (Contains units) (λ i. (sym name_is i, unit_is i)) (k, ltb-true k (length units) below, entry)
 
 -- what is read as a unit stands in the table
 pub unit_from : (suffix : List ℕ) (u : ℕ) → unit_of suffix ≡ Some u → Contains units (map to_ascii_lowercase suffix, u)
 unfolding unit_of
 unit_from suffix u h =
-    let row = unit_row suffix u in
+    let entry = unit_row suffix u in
     elim (chosen (is_named suffix (codes "") || is_named suffix (codes "k") || is_named suffix (codes "kib")) _ _ _ h) [
       | inl hit ↦ elim (either _ _ hit.0) [
         | inl two ↦ elim (either _ _ two) [
-          | inl is ↦ row 0 1024 (codes "") refl refl is hit.1
-          | inr is ↦ row 1 1024 (codes "k") refl refl is hit.1
+          | inl is ↦ entry 0 1024 (codes "") refl refl is hit.1
+          | inr is ↦ entry 1 1024 (codes "k") refl refl is hit.1
         ]
-        | inr is ↦ row 2 1024 (codes "kib") refl refl is hit.1
+        | inr is ↦ entry 2 1024 (codes "kib") refl refl is hit.1
       ]
       | inr miss ↦ elim (chosen (is_named suffix (codes "b") || is_named suffix (codes "byte") || is_named suffix (codes "bytes")) _ _ _ miss.1) [
         | inl hit ↦ elim (either _ _ hit.0) [
           | inl two ↦ elim (either _ _ two) [
-            | inl is ↦ row 3 1 (codes "b") refl refl is hit.1
-            | inr is ↦ row 4 1 (codes "byte") refl refl is hit.1
+            | inl is ↦ entry 3 1 (codes "b") refl refl is hit.1
+            | inr is ↦ entry 4 1 (codes "byte") refl refl is hit.1
           ]
-          | inr is ↦ row 5 1 (codes "bytes") refl refl is hit.1
+          | inr is ↦ entry 5 1 (codes "bytes") refl refl is hit.1
         ]
         | inr miss ↦ elim (chosen (is_named suffix (codes "kb")) _ _ _ miss.1) [
-          | inl hit ↦ row 6 1000 (codes "kb") refl refl hit.0 hit.1
+          | inl hit ↦ entry 6 1000 (codes "kb") refl refl hit.0 hit.1
           | inr miss ↦ elim (chosen (is_named suffix (codes "m") || is_named suffix (codes "mib")) _ _ _ miss.1) [
             | inl hit ↦ elim (either _ _ hit.0) [
-              | inl is ↦ row 7 1048576 (codes "m") refl refl is hit.1
-              | inr is ↦ row 8 1048576 (codes "mib") refl refl is hit.1
+              | inl is ↦ entry 7 1048576 (codes "m") refl refl is hit.1
+              | inr is ↦ entry 8 1048576 (codes "mib") refl refl is hit.1
             ]
             | inr miss ↦ elim (chosen (is_named suffix (codes "mb")) _ _ _ miss.1) [
-              | inl hit ↦ row 9 1000000 (codes "mb") refl refl hit.0 hit.1
+              | inl hit ↦ entry 9 1000000 (codes "mb") refl refl hit.0 hit.1
               | inr miss ↦ elim (chosen (is_named suffix (codes "g") || is_named suffix (codes "gib")) _ _ _ miss.1) [
                 | inl hit ↦ elim (either _ _ hit.0) [
-                  | inl is ↦ row 10 1073741824 (codes "g") refl refl is hit.1
-                  | inr is ↦ row 11 1073741824 (codes "gib") refl refl is hit.1
+                  | inl is ↦ entry 10 1073741824 (codes "g") refl refl is hit.1
+                  | inr is ↦ entry 11 1073741824 (codes "gib") refl refl is hit.1
                 ]
                 | inr miss ↦ elim (chosen (is_named suffix (codes "gb")) _ _ _ miss.1) [
-                  | inl hit ↦ row 12 1000000000 (codes "gb") refl refl hit.0 hit.1
+                  | inl hit ↦ entry 12 1000000000 (codes "gb") refl refl hit.0 hit.1
                   | inr miss ↦ (let none = miss.1 in absurd cc)
                 ]
               ]
@@ -64,9 +64,9 @@ unit_from suffix u h =
       ]
     ]
 
--- a fact that is computed for each row is true of a unit in the table
-of_row : (test : List ℕ × ℕ → Bool) → list_all test units ≡ true → (row : List ℕ × ℕ) → Contains units row → test row ≡ true
-of_row test all row h = subst (λ r. test r ≡ true) h.2 (AllPass-from_list_all test units all h.0 row h.1)
+-- a fact that is computed for each entry is true of a unit in the table
+of_row : (test : List ℕ × ℕ → Bool) → list_all test units ≡ true → (entry : List ℕ × ℕ) → Contains units entry → test entry ≡ true
+of_row test all entry h = subst (λ r. test r ≡ true) h.2 (AllPass-from_list_all test units all h.0 entry h.1)
 
 -- the unit of a name in lower case
 unit_named : List ℕ → Option ℕ
@@ -89,7 +89,7 @@ pub unit_of-named : (suffix : List ℕ) (u : ℕ) → Contains units (map to_asc
 unfolding unit_of unit_named
 unit_of-named suffix u h =
     is_unit (unit_named (map to_ascii_lowercase suffix)) u
-    (of_row (λ row. option_map_or (λ unit. unit == row.1) (unit_named row.0) false) refl (map to_ascii_lowercase suffix, u) h)
+    (of_row (λ entry. option_map_or (λ unit. unit == entry.1) (unit_named entry.0) false) refl (map to_ascii_lowercase suffix, u) h)
 
 lower_digit : (c : ℕ) → is_ascii_digit (to_ascii_lowercase c) ≡ is_ascii_digit c
 lower_digit c = grind (arith, nat_tests)
@@ -105,4 +105,4 @@ name_front (c ∷ cs) h =
 
 pub suffix_front : (suffix : List ℕ) (u : ℕ) → Contains units (map to_ascii_lowercase suffix, u) → prefix_len is_ascii_digit suffix ≡ 0
 suffix_front suffix u h =
-    name_front suffix (eqb-true _ _ (of_row (λ row. prefix_len is_ascii_digit row.0 == 0) refl (map to_ascii_lowercase suffix, u) h))
+    name_front suffix (eqb-true _ _ (of_row (λ entry. prefix_len is_ascii_digit entry.0 == 0) refl (map to_ascii_lowercase suffix, u) h))

@@ -1,6 +1,6 @@
 -- A host's parts, and the world that they show.
-use Rattle.std.proofs.Common.{◌≡◌, ℕ, zero, suc, ◌+◌, ◌-◌, ◌<◌, ◌≤◌, Bool, true, false, cond, ◌||◌, subst, List, [], ◌∷◌, length, map, set, get_or, refl, sym, ap, ◌∙◌, arith, rules, IsTrue}
-use Rattle.std.specs.Prelude.{All, Option, Some, None, Result, Ok, Err, slice_get, nat_lt, if◌then◌else◌}
+use Rattle.std.proofs.Common.{◌≡◌, ℕ, zero, suc, ◌+◌, ◌-◌, ◌<◌, ◌≤◌, Bool, true, false, cond, ◌||◌, subst, List, [], ◌∷◌, length, map, set, get_or, refl, sym, ap, ◌∙◌, arith}
+use Rattle.std.specs.Prelude.{All, Option, Some, Ok, Err, slice_get, nat_lt, if◌then◌else◌}
 use Rattle.std.proofs.lemmas.Bool.{lt-ltb, le-ltb}
 use Rattle.std.proofs.lemmas.List.{length-map, length-set, map-set, get_or-map, get_or_default}
 use Rattle.std.proofs.lemmas.List.Elements.{All-set}
@@ -12,12 +12,10 @@ use Rattle.std.specs.FinSet as sets
 use Rattle.std.specs.FinSet.{contains-union}
 use Rattle.vm_frames.specs.Machine.{MachineView}
 use Rattle.vm_guest.specs.Config.{GuestConfig}
-use Rattle.vm_guest.specs.Frames.{GivesOut}
 use Rattle.vm_guest.specs.Record.{GuestRecord}
 use Rattle.vm_guest.specs.Start.{started}
 use Rattle.vm_guest.specs.State.{GuestState}
-use Rattle.vm_host.specs.declared.boundary.Refusal.{Refusal}
-use Rattle.vm_host.specs.declared.boundary.Refusal.TheVariants.{NoSuchDomain, AlreadyRunning, BadLine, NoMemory}
+use Rattle.vm_host.specs.declared.boundary.Refusal.TheVariants.{AlreadyRunning, NoMemory}
 use Rattle.vm_host.specs.declared.parts.Parts.{Parts}
 use Rattle.vm_host.specs.declared.slot.Slot.{Slot}
 use Rattle.vm_host.specs.declared.slot.Slot.TheVariants.{Stopped, Running, Empty}
@@ -27,7 +25,7 @@ use Rattle.vm_host.specs.Machine.{MachineConfig}
 use Rattle.vm_host.specs.Parts.{world_of, once_if, IsTied, CanStart}
 use Rattle.vm_host.specs.Slots.{config_in, guest_in, holds, holders, is_empty}
 use Rattle.vm_host.specs.Starting.{IsStopped, StartsIn}
-use Rattle.vm_host.specs.World.{World, guest_at, running, held_by, total_held}
+use Rattle.vm_host.specs.World.{running, held_by, total_held}
 use Rattle.vm_host.proofs.DomainLemmas.{names_of-domains_of, length-domains_of}
 
 pub domain-at : (names : List (List ℕ)) (configs : List GuestConfig) (i : ℕ) (d : GuestConfig) → length names ≡ length configs → i < length configs

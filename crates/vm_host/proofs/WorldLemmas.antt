@@ -1,10 +1,9 @@
 -- The world of a host after a call.
-use Rattle.std.proofs.Common.{◌≡◌, ℕ, ◌+◌, ◌-◌, ◌<◌, ◌≤◌, Bool, true, false, List, [], ◌∷◌, length, map, get_or, refl, sym, ap, ◌∙◌, inl, inr, arith, subst, IsTrue}
-use Rattle.std.specs.Prelude.{All, Option, Some, None, Result, Ok, Err, nat_lt, slice_get, if◌then◌else◌}
+use Rattle.std.proofs.Common.{◌≡◌, ℕ, ◌-◌, ◌<◌, ◌≤◌, Bool, true, false, List, [], ◌∷◌, length, map, get_or, refl, sym, ap, ◌∙◌, inl, inr, arith, subst, IsTrue}
+use Rattle.std.specs.Prelude.{All, Option, Some, None, Result, Ok, Err, slice_get, if◌then◌else◌}
 use Rattle.std.specs.Bool.{OnTrue, OnFalse}
 use Rattle.std.specs.Option.{option_map}
 use Rattle.std.specs.Ordering.{nat_cmp}
-use Rattle.std.specs.Cmp.{nat_cmp_total}
 use Rattle.std.specs.FinSet as sets
 use Rattle.std.specs.FinSet.{len-empty, contains-empty}
 use Rattle.std.proofs.lemmas.Bool.{cases_lt, lt-ltb, le-ltb}
@@ -19,7 +18,7 @@ use Rattle.vm_guest.specs.Record.{GuestRecord}
 use Rattle.vm_host.specs.declared.parts.Parts.{Parts}
 use Rattle.vm_host.specs.declared.phase.Phase.{Phase}
 use Rattle.vm_host.specs.declared.slot.Slot.{Slot}
-use Rattle.vm_host.specs.declared.slot.Slot.TheVariants.{Stopped, Running, Empty}
+use Rattle.vm_host.specs.declared.slot.Slot.TheVariants.{Stopped}
 use Rattle.vm_host.specs.declared.boundary.Refusal.{Refusal}
 use Rattle.vm_host.specs.Commands.{with_started, decided, decision_on, after_line, after_lines}
 use Rattle.vm_host.specs.Domains.{Domain, domains_of, place_of, position_of}
@@ -27,7 +26,7 @@ use Rattle.vm_host.specs.Machine.{MachineConfig}
 use Rattle.vm_host.specs.Parts.{world_of, once_if, IsTied}
 use Rattle.vm_host.specs.Readers.{page_of, page_at, Peeks}
 use Rattle.vm_host.specs.Slots.{config_in, guest_in, holds, holders, is_empty, unprepared, slot_ordered, slot_run}
-use Rattle.vm_host.specs.World.{World, running, total_held, Conserves}
+use Rattle.vm_host.specs.World.{World, total_held, Conserves}
 use Rattle.vm_host.proofs.PartsLemmas.{names_of-world}
 use Rattle.vm_host.proofs.SlotLemmas.{map-kept, map-changed, holders-kept, none_empty-kept, holds-ordered, holds-run, holds-unprepared, config_in-ordered, config_in-run, config_in-unprepared, guest_in-ordered, guest_in-run, guest_in-unprepared, is_empty-ordered, is_empty-run, is_empty-unprepared, total_held-ordered, total_held-epoch}
 

@@ -1,5 +1,5 @@
 -- What a command line does. The one command is `start NAME` (`virsh start`): it runs the domain from its configuration.
-use Rattle.std.specs.Prelude.{ℕ, ◌-◌, List, [], ◌∷◌, nat_lt, Option, Some, None, Result, Ok, Err, codes, length, drop, nat_eq, slice_get, slice_set, if◌then◌else◌}
+use Rattle.std.specs.Prelude.{ℕ, ◌-◌, List, [], ◌∷◌, nat_lt, Option, Some, None, Result, Ok, Err, codes, drop, nat_eq, slice_get, slice_set, if◌then◌else◌}
 use Rattle.std.specs.List.{starts_with}
 use Rattle.vm_guest.specs.Record.{GuestRecord}
 use Rattle.vm_guest.specs.Start.{started}

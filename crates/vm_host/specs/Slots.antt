@@ -1,10 +1,10 @@
 -- The domains of a host as its code keeps them: in each slot a stopped guest's configuration, or a guest.
-use Rattle.std.specs.Prelude.{◌≡◌, ℕ, ◌+◌, ◌≤◌, Bool, true, false, List, [], ◌∷◌, Option, Some, None, map, count_by, length, slice_index_or, if◌then◌else◌}
+use Rattle.std.specs.Prelude.{ℕ, Bool, true, false, List, [], Option, Some, None, count_by}
 use Rattle.std.specs.FinSet as set
 use Rattle.vm_guest.specs.Config.{GuestConfig}
 use Rattle.vm_guest.specs.Epoch.{epoch, ordered}
 use Rattle.vm_guest.specs.Record.{GuestRecord}
-use Rattle.vm_guest.specs.State.{GuestState, with_guest}
+use Rattle.vm_guest.specs.State.{with_guest}
 use Rattle.vm_host.specs.declared.slot.Slot.{Slot}
 use Rattle.vm_host.specs.declared.slot.Slot.TheVariants.{Stopped, Running, Empty}
 

@@ -1,5 +1,5 @@
 -- What a host is, as plain data: no frame is in it, and no number of one.
-use Rattle.std.specs.Prelude.{◌≡◌, ℕ, ◌+◌, List, [], ◌∷◌, Option, Some, None, map, slice_get, replicate, length}
+use Rattle.std.specs.Prelude.{◌≡◌, ℕ, ◌+◌, List, [], ◌∷◌, Option, Some, None, map, slice_get}
 use Rattle.vm_guest.specs.Record.{GuestRecord}
 use Rattle.vm_host.specs.declared.phase.Phase.{Phase}
 use Rattle.vm_host.specs.declared.phase.Phase.TheVariants.{Waiting, Failed}

@@ -51,11 +51,7 @@ fn fill(slot: &mut Slot, new: Slot)
 }
 
 // Starts the stopped guest of a slot, whose minimum the machine has free. Where memory is refused, nothing changes.
-pub(crate) fn start(
-    alloc: Global,
-    slot: &mut Slot,
-    machine: &mut Machine,
-) -> Result<(), AllocError>
+pub(crate) fn start(alloc: Global, slot: &mut Slot, machine: &mut Machine) -> Result<(), AllocError>
     requires stopped { IsStopped slot.old }
     requires enough { set.len machine.old.out + (config_in slot.old).min ≤ machine.old.total }
     ensures started { OnOk result (StartsIn slot.old slot.new machine.old machine.new) }

@@ -93,6 +93,12 @@ fn outcome_at(boundary: &Boundary, place: usize) -> Option<Outcome> {
     Some(answer.outcome())
 }
 
+// How many reads a guest's last epoch had.
+fn read_count(host: &Host, position: usize) -> Option<usize> {
+    let reads = host.reads(position)?;
+    Some(reads.len())
+}
+
 // The first byte of a page, where it is shown.
 fn first_byte(host: &Host, name: &str, page: u32) -> Option<u8> {
     let mut bytes = [7; 4096];
@@ -217,17 +223,20 @@ fn two_in_order(rt: HostRuntime) -> Result<(), Fail> {
     assert_eq!(rt; outcome_at(&boundary, 0), Some(Outcome::Done));
     assert_eq!(rt; outcome_at(&boundary, 1), Some(Outcome::Done));
     assert_eq!(rt; boundary.free, 97);
-    assert_eq!(rt; host.reads(0), Some([].as_slice()));
+    assert_eq!(rt; read_count(&host, 0), Some(0));
     assert_eq!(rt; host.reads(1), Some([read_by_b].as_slice()));
     let boundary = serve(&rt, &mut host, &Lines::new(alloc));
     assert!(rt; boundary.answers.as_slice().is_empty());
     assert_eq!(rt; boundary.free, 97);
     assert_eq!(rt; host.reads(0), Some([read_by_a].as_slice()));
-    assert_eq!(rt; host.reads(1), Some([].as_slice()));
+    assert_eq!(rt; read_count(&host, 1), Some(0));
     for (position, held, done) in [(0, 2, 2), (1, 1, 1)] {
         let view = host.view(position).expect(&rt, "both run");
         assert_eq!(rt; (view.target, view.held, view.done), (held, held, done));
-        assert_eq!(rt; (view.swapped, view.balloon, view.active, view.bad), (0, 0, 65536, 0));
+        assert_eq!(rt;
+            (view.swapped, view.balloon, view.active, view.bad),
+            (0, 0, 65536, 0)
+        );
     }
     assert_eq!(rt; first_byte(&host, "a", 0), Some(0x0a));
     assert_eq!(rt; first_byte(&host, "b", 1), None);

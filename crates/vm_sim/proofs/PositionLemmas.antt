@@ -25,7 +25,7 @@ next_lines old new text lines n more so_far =
 
 starts_of : (domains : List Domain) (n : ℕ) → n < length domains
     → map start_line (take n domains) ++ (codes "start " ++ unwrap_or (slice_get (names_of domains) n) []) ∷ []
-        ≡ map start_line (take (suc n) domains)
+    ≡ map start_line (take (suc n) domains)
 starts_of [] n h = absurd (omega arith)
 starts_of (d ∷ ds) zero h = refl
 starts_of (d ∷ ds) (suc n) h = ap (λ (l : List (List ℕ)). start_line d ∷ l) (starts_of ds n (omega arith))

@@ -142,17 +142,17 @@ lines_kept law (line ∷ lines) w h kept =
 ordered_written : (guest : Option GuestRecord) (h : List Happening) → IsWritten guest h → IsWritten (option_map ordered guest) h
 ordered_written None h written = tt
 ordered_written (Some g) h written = (
-    record {
-      limits = written.0.limits;
-      places = written.0.places;
-      contents = written.0.contents;
-      bytes = written.0.bytes;
-      whole = written.0.whole;
-      used = written.0.used;
-      within = written.0.within;
-    },
-    record { each = written.1.each },
-  )
+  record {
+    limits = written.0.limits;
+    places = written.0.places;
+    contents = written.0.contents;
+    bytes = written.0.bytes;
+    whole = written.0.whole;
+    used = written.0.used;
+    within = written.0.within;
+  },
+  record { each = written.1.each },
+)
 
 all_ordered_written : (guests : List (Option GuestRecord)) (h : History) → AreWritten guests h → AreWritten (all_ordered guests) h
 all_ordered_written [] [] written = tt
@@ -181,7 +181,7 @@ reads_written law (Some g) h written =
 
 all_reads_written : EpochLaw → (guests : List (Option GuestRecord)) (h : History) (position : ℕ) → AreWritten guests h
     → option_map (λ g. g.reads) (running (slice_get (map (option_map epoch) (all_ordered guests)) position))
-        ≡ reads_of_last_writes (happenings_at h position) (running (slice_get (all_ordered guests) position))
+    ≡ reads_of_last_writes (happenings_at h position) (running (slice_get (all_ordered guests) position))
 all_reads_written law [] [] position written = refl
 all_reads_written law [] (h ∷ hs) position written = absurd written
 all_reads_written law (guest ∷ guests) [] position written = absurd written
@@ -203,7 +203,7 @@ module _ (start : StartLaw) (epoch_law : EpochLaw) (c : Config) (limits : AreWit
 
   pub reads_are_last_writes : (k position : ℕ)
       → reads_shown (world_after c (k + 1)) position
-          ≡ reads_of_last_writes (happenings_at (history_before c k) position) (guest_at (world_before c k) position)
+      ≡ reads_of_last_writes (happenings_at (history_before c k) position) (guest_at (world_before c k) position)
   reads_are_last_writes k position =
       let w = world_after c k in
       let served = lines_kept start (lines_at w.domains k) w (history_after c k) (run_kept k) in

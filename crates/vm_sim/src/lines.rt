@@ -151,6 +151,9 @@ pub(crate) fn push_guest(text: &mut String, name: &str, view: &GuestView) -> Res
     let active = view.active;
     let bad = view.bad;
     let done = view.done;
-    write!(text, "{name} target {target} held {held} swapped {swapped} balloon {balloon}")?;
+    write!(
+        text,
+        "{name} target {target} held {held} swapped {swapped} balloon {balloon}"
+    )?;
     writeln!(text, " active {active} bad {bad} done {done}")
 }

@@ -73,7 +73,10 @@ fn push_machine(text: &mut String, host: &Host) -> Result<(), AllocError>
     let free = host.free();
     let overhead = host.overhead_frames();
     let held = frames - free - overhead;
-    writeln!(text, "machine {frames} held {held} free {free} overhead {overhead}")
+    writeln!(
+        text,
+        "machine {frames} held {held} free {free} overhead {overhead}"
+    )
 }
 
 /// The end of a run, in lines:

@@ -9,10 +9,12 @@ use std::process::Abort;
 use std::test::Fail;
 use vm_host::Lines;
 
-const FIRST_READ: &str = "{\"version\":1,\"frames\":100,\"epochs\":1,\"guests\":[{\"name\":\"web\",\"size\":4,\"min\":4,\
+const FIRST_READ: &str =
+    "{\"version\":1,\"frames\":100,\"epochs\":1,\"guests\":[{\"name\":\"web\",\"size\":4,\"min\":4,\
 \"trace\":[\"w 0 0 ff\",\"r 0 0 4\"]}]}";
 
-const FIRST_READ_REPORT: &str = "epoch 0\n> start web\nok\nstate high free 96\nweb r 0 0 ff000000\nend\n\
+const FIRST_READ_REPORT: &str =
+    "epoch 0\n> start web\nok\nstate high free 96\nweb r 0 0 ff000000\nend\n\
 web target 4 held 4 swapped 0 balloon 0 active 65536 bad 0 done 2\n\
 machine 100 held 4 free 96 overhead 0\n";
 
@@ -20,7 +22,8 @@ const TWO_IN_ORDER: &str = "{\"version\":1,\"frames\":100,\"quantum\":1,\"epochs
 {\"name\":\"a\",\"size\":2,\"min\":2,\"trace\":[\"w 0 0 0a\",\"r 0 0 1\"]},\
 {\"name\":\"b\",\"size\":1,\"min\":1,\"trace\":[\"r 0 0 2\"]}]}";
 
-const TWO_IN_ORDER_REPORT: &str = "epoch 0\n> start a\nok\n> start b\nok\nstate high free 97\nb r 0 0 0000\n\
+const TWO_IN_ORDER_REPORT: &str =
+    "epoch 0\n> start a\nok\n> start b\nok\nstate high free 97\nb r 0 0 0000\n\
 epoch 1\nstate high free 97\na r 0 0 0a\nend\n\
 a target 2 held 2 swapped 0 balloon 0 active 65536 bad 0 done 2\n\
 b target 1 held 1 swapped 0 balloon 0 active 65536 bad 0 done 1\n\
@@ -33,7 +36,8 @@ const FIVE_GUESTS: &str = "{\"version\":1,\"frames\":20,\"epochs\":1,\"guests\":
 {\"name\":\"g3\",\"size\":2,\"min\":2,\"trace\":[\"w 0 0 13\",\"r 0 0 1\"]},\
 {\"name\":\"g4\",\"size\":2,\"min\":2,\"trace\":[\"w 0 0 14\",\"r 0 0 1\"]}]}";
 
-const FIVE_GUESTS_REPORT: &str = "epoch 0\n> start g0\nok\n> start g1\nok\n> start g2\nok\n> start g3\nok\n\
+const FIVE_GUESTS_REPORT: &str =
+    "epoch 0\n> start g0\nok\n> start g1\nok\n> start g2\nok\n> start g3\nok\n\
 > start g4\nok\nstate high free 10\n\
 g0 r 0 0 10\ng1 r 0 0 11\ng2 r 0 0 12\ng3 r 0 0 13\ng4 r 0 0 14\nend\n\
 g0 target 2 held 2 swapped 0 balloon 0 active 65536 bad 0 done 2\n\
@@ -48,15 +52,18 @@ const NO_GUESTS: &str = "{\"version\":1,\"frames\":10,\"epochs\":1,\"guests\":[]
 const NO_GUESTS_REPORT: &str =
     "epoch 0\nstate high free 10\nend\nmachine 10 held 0 free 10 overhead 0\n";
 
-const NO_EPOCHS: &str = "{\"version\":1,\"frames\":100,\"epochs\":0,\"guests\":[{\"name\":\"web\",\"size\":4,\"min\":4,\
+const NO_EPOCHS: &str =
+    "{\"version\":1,\"frames\":100,\"epochs\":0,\"guests\":[{\"name\":\"web\",\"size\":4,\"min\":4,\
 \"trace\":[\"w 0 0 ff\",\"r 0 0 4\"]}]}";
 
 const NO_EPOCHS_REPORT: &str = "end\nmachine 100 held 0 free 100 overhead 0\n";
 
-const FREED_READS_ZERO: &str = "{\"version\":1,\"frames\":100,\"epochs\":1,\"guests\":[{\"name\":\"web\",\"size\":4,\"min\":4,\
+const FREED_READS_ZERO: &str =
+    "{\"version\":1,\"frames\":100,\"epochs\":1,\"guests\":[{\"name\":\"web\",\"size\":4,\"min\":4,\
 \"trace\":[\"w 0 0 ff\",\"f 0\",\"r 0 0 1\"]}]}";
 
-const FREED_READS_ZERO_REPORT: &str = "epoch 0\n> start web\nok\nstate high free 96\nweb r 0 0 00\nend\n\
+const FREED_READS_ZERO_REPORT: &str =
+    "epoch 0\n> start web\nok\nstate high free 96\nweb r 0 0 00\nend\n\
 web target 4 held 4 swapped 0 balloon 0 active 65536 bad 0 done 3\n\
 machine 100 held 4 free 96 overhead 0\n";
 
@@ -150,7 +157,11 @@ fn reports_are_those_of_the_examples(rt: HostRuntime) {
     for (text, report) in examples {
         let mut reader = Watched::new(text.as_bytes());
         let mut writer = Narrow::new(rt.alloc(), 10_000);
-        assert_eq!(rt; fault_of(run(rt.alloc(), 1, &mut reader, &mut writer)), None, "{text}");
+        assert_eq!(rt;
+            fault_of(run(rt.alloc(), 1, &mut reader, &mut writer)),
+            None,
+            "{text}"
+        );
         assert_eq!(rt; writer.held.as_slice(), report.as_bytes(), "{text}");
     }
 }
@@ -238,8 +249,9 @@ fn refusal(alloc: Global, text: &str) -> Option<ConfigError> {
 /// The fault of a step of a guest with four pages.
 fn fault_in_step(rt: &(impl AllocGlobal + Abort), step: &str) -> Option<ConfigError> {
     let alloc = rt.alloc();
-    let text = format!(in alloc; "{{\"version\":1,\"frames\":100,\"epochs\":1,\"guests\":[{{\"name\":\"web\",\"size\":4,\"min\":4,\"trace\":[\"i\",\"{step}\"]}}]}}")
-        .expect(rt, "there is memory");
+    let text = format!(in alloc;
+        "{{\"version\":1,\"frames\":100,\"epochs\":1,\"guests\":[{{\"name\":\"web\",\"size\":4,\"min\":4,\"trace\":[\"i\",\"{step}\"]}}]}}"
+    ).expect(rt, "there is memory");
     refusal(alloc, &text)
 }
 
@@ -253,8 +265,9 @@ fn fault_in_root(rt: &(impl AllocGlobal + Abort), keys: &str) -> Option<ConfigEr
 /// The fault of a configuration of 100 frames with these guests.
 fn fault_in_guests(rt: &(impl AllocGlobal + Abort), guests: &str) -> Option<ConfigError> {
     let alloc = rt.alloc();
-    let text = format!(in alloc; "{{\"version\":1,\"frames\":100,\"epochs\":1,\"guests\":[{guests}]}}")
-        .expect(rt, "there is memory");
+    let text = format!(in alloc;
+        "{{\"version\":1,\"frames\":100,\"epochs\":1,\"guests\":[{guests}]}}"
+    ).expect(rt, "there is memory");
     refusal(alloc, &text)
 }
 
@@ -283,15 +296,42 @@ fn keys_of_the_root_are_refused_in_order(rt: HostRuntime) {
         ("\"frames\":0,\"epochs\":-1", Some(ConfigError::Range)),
         ("\"frames\":65536,\"epochs\":-1", Some(ConfigError::Kind)),
         ("\"frames\":65537", Some(ConfigError::Range)),
-        ("\"frames\":1,\"epochs\":9,\"guests\":{}", Some(ConfigError::Kind)),
-        ("\"frames\":1,\"epochs\":10,\"guests\":{}", Some(ConfigError::Range)),
-        ("\"frames\":1,\"quantum\":1,\"epochs\":999,\"guests\":[]", None),
-        ("\"frames\":1,\"quantum\":1,\"epochs\":1000,\"guests\":[]", Some(ConfigError::Range)),
-        ("\"frames\":1,\"epochs\":0,\"guests\":[1]", Some(ConfigError::Kind)),
-        ("\"frames\":1,\"epochs\":0,\"guests\":[],\"commands\":[]", None),
-        ("\"frames\":1,\"epochs\":0,\"guests\":[{}],\"commands\":[{}]", Some(ConfigError::Range)),
-        ("\"frames\":1,\"epochs\":0,\"guests\":[{}],\"commands\":[1]", Some(ConfigError::Kind)),
-        ("\"frames\":1,\"epochs\":0,\"guests\":[],\"colour\":[1]", None),
+        (
+            "\"frames\":1,\"epochs\":9,\"guests\":{}",
+            Some(ConfigError::Kind),
+        ),
+        (
+            "\"frames\":1,\"epochs\":10,\"guests\":{}",
+            Some(ConfigError::Range),
+        ),
+        (
+            "\"frames\":1,\"quantum\":1,\"epochs\":999,\"guests\":[]",
+            None,
+        ),
+        (
+            "\"frames\":1,\"quantum\":1,\"epochs\":1000,\"guests\":[]",
+            Some(ConfigError::Range),
+        ),
+        (
+            "\"frames\":1,\"epochs\":0,\"guests\":[1]",
+            Some(ConfigError::Kind),
+        ),
+        (
+            "\"frames\":1,\"epochs\":0,\"guests\":[],\"commands\":[]",
+            None,
+        ),
+        (
+            "\"frames\":1,\"epochs\":0,\"guests\":[{}],\"commands\":[{}]",
+            Some(ConfigError::Range),
+        ),
+        (
+            "\"frames\":1,\"epochs\":0,\"guests\":[{}],\"commands\":[1]",
+            Some(ConfigError::Kind),
+        ),
+        (
+            "\"frames\":1,\"epochs\":0,\"guests\":[],\"colour\":[1]",
+            None,
+        ),
     ];
     for (keys, fault) in texts {
         assert_eq!(rt; fault_in_root(&rt, keys), fault, "{keys}");
@@ -302,17 +342,38 @@ fn keys_of_the_root_are_refused_in_order(rt: HostRuntime) {
 fn keys_of_guests_are_refused_in_order(rt: HostRuntime) {
     let texts = [
         ("{\"name\":\"web\",\"size\":4,\"min\":4}", None),
-        ("{\"name\":\"web\",\"size\":4,\"min\":5}", Some(ConfigError::Range)),
-        ("{\"name\":\"web\",\"size\":4,\"min\":2}", Some(ConfigError::Range)),
+        (
+            "{\"name\":\"web\",\"size\":4,\"min\":5}",
+            Some(ConfigError::Range),
+        ),
+        (
+            "{\"name\":\"web\",\"size\":4,\"min\":2}",
+            Some(ConfigError::Range),
+        ),
         ("{\"name\":\"-a\",\"size\":0}", Some(ConfigError::Name)),
         ("{\"name\":1}", Some(ConfigError::Kind)),
         ("{\"size\":4}", Some(ConfigError::Missing)),
-        ("{\"name\":\"a\",\"size\":4,\"min\":4},{\"name\":\"a\"}", Some(ConfigError::Twice)),
-        ("{\"name\":\"a\",\"size\":4,\"min\":4},{\"name\":\"A\",\"size\":4,\"min\":4}", None),
-        ("{\"name\":\"a\",\"size\":4,\"min\":4,\"trace\":[1]}", Some(ConfigError::Kind)),
+        (
+            "{\"name\":\"a\",\"size\":4,\"min\":4},{\"name\":\"a\"}",
+            Some(ConfigError::Twice),
+        ),
+        (
+            "{\"name\":\"a\",\"size\":4,\"min\":4},{\"name\":\"A\",\"size\":4,\"min\":4}",
+            None,
+        ),
+        (
+            "{\"name\":\"a\",\"size\":4,\"min\":4,\"trace\":[1]}",
+            Some(ConfigError::Kind),
+        ),
         ("{\"name\":\"a\",\"size\":96,\"min\":96}", None),
-        ("{\"name\":\"a\",\"size\":97,\"min\":97}", Some(ConfigError::Range)),
-        ("{\"name\":\"a\",\"size\":90,\"min\":90},{\"name\":\"b\",\"size\":7,\"min\":7}", Some(ConfigError::Range)),
+        (
+            "{\"name\":\"a\",\"size\":97,\"min\":97}",
+            Some(ConfigError::Range),
+        ),
+        (
+            "{\"name\":\"a\",\"size\":90,\"min\":90},{\"name\":\"b\",\"size\":7,\"min\":7}",
+            Some(ConfigError::Range),
+        ),
     ];
     for (guests, fault) in texts {
         assert_eq!(rt; fault_in_guests(&rt, guests), fault, "{guests}");
@@ -353,7 +414,11 @@ fn faults_have_numbers_and_texts(rt: HostRuntime) -> Result<(), Fail> {
         (ConfigError::Missing, 2, "a required key is absent"),
         (ConfigError::Kind, 3, "a value is not of its key's kind"),
         (ConfigError::Range, 4, "a value is outside its key's range"),
-        (ConfigError::Name, 5, "a name has a character or a length that names do not have"),
+        (
+            ConfigError::Name,
+            5,
+            "a name has a character or a length that names do not have",
+        ),
         (ConfigError::Twice, 6, "two guests have one name"),
         (trace, 7, "guest 2, step 5: not hexadecimal bytes"),
         (ConfigError::Memory, 8, "out of memory"),

@@ -1,8 +1,4 @@
-use Rattle.std.proofs.Common.{◌≡◌, ◌∙◌, sym, ap, List, ℕ}
-use Rattle.std.specs.Prelude.{Option, Some, None}
-use Rattle.vm_host.specs.Commands.{start_by, start_at, word_after_start}
-use Rattle.vm_host.specs.Domains.{place_of}
-use Rattle.vm_host.specs.Parts.{world_of}
+use Rattle.std.proofs.Common.{◌∙◌, sym}
 use Rattle.vm_host.proofs.PartsLemmas.{decision_on-position}
 use Rattle.vm_host.proofs.parts.decide.Goals as goal
 

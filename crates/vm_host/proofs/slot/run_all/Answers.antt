@@ -1,4 +1,4 @@
-use Rattle.std.proofs.Common.{◌≡◌, ◌∙◌, ap, sym, get_or, true}
+use Rattle.std.proofs.Common.{◌∙◌, ap, get_or}
 use Rattle.std.proofs.lemmas.List.{get_or_default}
 use Rattle.vm_host.specs.declared.slot.Slot.TheVariants.{Empty}
 use Rattle.vm_host.specs.Slots.{slot_run, is_prepared}

@@ -1,4 +1,4 @@
-use Rattle.std.proofs.Common.{◌≡◌, ◌+◌, ◌∙◌, sym, ap, ℕ}
+use Rattle.std.proofs.Common.{◌+◌, ◌∙◌, ap}
 use Rattle.std.specs.FinSet as set
 use Rattle.vm_guest.specs.Start.{started}
 use Rattle.vm_guest.specs.Config.{GuestConfig}

@@ -1,9 +1,9 @@
-use Rattle.std.proofs.Common.{◌≡◌, ◌+◌, ◌-◌, ◌∙◌, sym, ap, refl, map, List, ℕ, arith, string_bytes}
+use Rattle.std.proofs.Common.{◌≡◌, ◌-◌, ◌∙◌, ap, refl, arith}
 use Rattle.std.specs.FinSet as set
 use Rattle.vm_host.specs.declared.phase.Phase.TheVariants.{Ready}
 use Rattle.vm_host.specs.Boundary.{all_ordered}
 use Rattle.vm_host.specs.Commands.{after_lines, answers_to}
-use Rattle.vm_host.specs.Parts.{world_of, IsTied}
+use Rattle.vm_host.specs.Parts.{world_of}
 use Rattle.vm_host.specs.Slots.{slot_ordered}
 use Rattle.vm_host.specs.World.{World}
 use Rattle.vm_host.proofs.WorldLemmas.{conserves, tied-kept, ordered-keeps, world-ordered, with_slots, items-mapped, state-after_lines}

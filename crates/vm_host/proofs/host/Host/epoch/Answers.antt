@@ -1,9 +1,7 @@
-use Rattle.std.proofs.Common.{◌≡◌, ◌∙◌, ap, refl, map}
-use Rattle.vm_host.specs.declared.parts.Parts.{Parts}
+use Rattle.std.proofs.Common.{◌∙◌, ap, refl}
 use Rattle.vm_host.specs.declared.phase.Phase.TheVariants.{Waiting}
 use Rattle.vm_host.specs.Epoch.{after_epoch}
-use Rattle.vm_host.specs.Parts.{world_of, IsTied}
-use Rattle.vm_host.specs.Slots.{unprepared, slot_run}
+use Rattle.vm_host.specs.Slots.{slot_run}
 use Rattle.vm_host.proofs.WorldLemmas.{conserves, tied-kept, unprepared-keeps, run-keeps, world-unprepared, world-run, with_slots, items-mapped, items-unprepared}
 use Rattle.vm_host.proofs.host.Host.epoch.Goals as goal
 

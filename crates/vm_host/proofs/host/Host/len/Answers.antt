@@ -1,6 +1,5 @@
-use Rattle.std.proofs.Common.{◌∙◌, sym, ap, slice_get, rules}
-use Rattle.vm_host.specs.Domains.{place_of}
-use Rattle.vm_host.proofs.PartsLemmas.{names_of-world, length-world}
+use Rattle.std.proofs.Common.{rules}
+use Rattle.vm_host.proofs.PartsLemmas.{length-world}
 use Rattle.vm_host.proofs.host.Host.len.Goals as goal
 
 pub returns : goal.returns

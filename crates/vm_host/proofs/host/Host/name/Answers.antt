@@ -1,6 +1,5 @@
-use Rattle.std.proofs.Common.{◌∙◌, sym, ap, slice_get, rules}
-use Rattle.vm_host.specs.Domains.{place_of}
-use Rattle.vm_host.proofs.PartsLemmas.{names_of-world, length-world}
+use Rattle.std.proofs.Common.{◌∙◌, sym, ap, slice_get}
+use Rattle.vm_host.proofs.PartsLemmas.{names_of-world}
 use Rattle.vm_host.proofs.host.Host.name.Goals as goal
 
 pub returns : goal.returns

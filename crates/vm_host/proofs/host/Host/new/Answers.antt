@@ -1,6 +1,5 @@
-use Rattle.std.proofs.Common.{◌≡◌, ◌∙◌, sym, ap, arith, length, List, ℕ, rules}
+use Rattle.std.proofs.Common.{◌∙◌, sym, ap, arith, length, List, ℕ, rules}
 use Rattle.std.specs.FinSet as sets
-use Rattle.vm_frames.specs.Machine.{MachineView}
 use Rattle.vm_host.specs.declared.parts.Parts.{Parts}
 use Rattle.vm_host.specs.declared.phase.Phase.TheVariants.{Waiting}
 use Rattle.vm_host.specs.declared.state.State.TheVariants.{High}

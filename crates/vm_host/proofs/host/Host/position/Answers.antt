@@ -1,6 +1,6 @@
-use Rattle.std.proofs.Common.{◌∙◌, sym, ap, slice_get, rules}
+use Rattle.std.proofs.Common.{◌∙◌, sym, ap}
 use Rattle.vm_host.specs.Domains.{place_of}
-use Rattle.vm_host.proofs.PartsLemmas.{names_of-world, length-world}
+use Rattle.vm_host.proofs.PartsLemmas.{names_of-world}
 use Rattle.vm_host.proofs.host.Host.position.Goals as goal
 
 pub returns : goal.returns

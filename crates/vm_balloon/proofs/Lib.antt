@@ -1,0 +1,5 @@
+pub mod VirtioLemmas
+pub mod StatisticsLemmas
+pub mod MarkLemmas
+pub mod DeviceLemmas
+pub mod ServiceLemmas

@@ -1,0 +1,23 @@
+use Rattle.std.proofs.Common.{◌≡◌, ◌<◌, length, ap, ◌∙◌, arith}
+use Rattle.vm_pages.specs.Pages.{contains}
+use Rattle.vm_balloon.specs.Service.{numbers_in}
+use Rattle.vm_balloon.specs.Device.{names}
+use Rattle.vm_balloon.specs.Posted.{PostedPages}
+use Rattle.vm_balloon.proofs.MarkLemmas.{contains-marked, length-marked}
+use Rattle.vm_balloon.proofs.page_queue.PageQueue.names.Goals as goal
+
+pub contains-requires : goal.contains-requires
+contains-requires c =
+    let size = ap length c.self.invariant.marked ∙ length-marked c.self.inside.size (numbers_in c.self.inside.buffers.items) in
+    let is : c.self.inside.size ≡ c.args.self.now.size = ap (λ (q : PostedPages). q.size) c.self.view_is in
+    omega (arith, size, is, c.requires)
+
+pub returns : goal.returns
+returns c =
+    let page = c.args.page in
+    let is : c.self.inside.size ≡ c.args.self.now.size = ap (λ (q : PostedPages). q.size) c.self.view_is in
+    let within : page < c.self.inside.size = omega (arith, is, c.requires) in
+    c.contains.ensures
+    ∙ ap (λ pages. contains pages page) c.self.invariant.marked
+    ∙ contains-marked c.self.inside.size (numbers_in c.self.inside.buffers.items) page within
+    ∙ ap (λ (q : PostedPages). names q.buffers page) c.self.view_is

@@ -1,0 +1,11 @@
+pub mod Virtio
+pub mod Statistics
+pub mod StatsOf
+pub mod Service
+pub mod Posted
+pub mod PageQueue
+pub mod Device
+pub mod DeviceFields
+pub mod Lending
+pub mod PostErrorText
+pub mod Room

@@ -1,0 +1,10 @@
+-- What a contract sees of a queue of posted page buffers.
+use Rattle.std.specs.Prelude.{ℕ, List}
+
+pub record PostedPages : Type 0 where
+  -- the pages of the guest
+  pub size : ℕ
+  -- how many buffers can be posted
+  pub room : ℕ
+  -- the bytes of each buffer, in order of posting
+  pub buffers : List (List ℕ)

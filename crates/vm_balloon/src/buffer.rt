@@ -1,0 +1,42 @@
+ghost use Rattle.std.specs.Prelude.{◌≡◌, ℕ, ◌≤◌, List, length, take};
+
+use std::marker::Model;
+
+/// The most bytes that a posted buffer may have.
+pub const MOST_BYTES: usize = 1024;
+
+/// The bytes of a posted buffer, which are kept in place.
+#[derive(Debug, Drop)]
+pub struct Buffer {
+    bytes: [u8; MOST_BYTES],
+    len: usize,
+}
+
+impl Model for Buffer {
+    ghost Value = { List ℕ };
+
+    ghost view = { λ b. take b.len b.bytes };
+
+    ghost invariant = { λ b. b.len ≤ 1024 };
+}
+
+impl Buffer {
+    /// A copy of these bytes.
+    pub fn of(source: &[u8]) -> Self
+        requires { length source.now ≤ 1024 }
+        ensures { result ≡ source.now }
+    {
+        let len = source.len();
+        let mut bytes = [0; MOST_BYTES];
+        bytes[..len].copy_from_slice(source);
+        Buffer { bytes, len }
+    }
+
+    /// The bytes.
+    pub fn bytes(&self) -> &[u8]
+        ensures bytes { result.now ≡ self.now }
+        ensures few { length self.now ≤ 1024 }
+    {
+        &self.bytes[..self.len]
+    }
+}

@@ -1,0 +1,319 @@
+ghost use Rattle.std.specs.Prelude.{◌≡◌, ◌+◌, ◌*◌, ◌<◌, ◌≤◌, ◌↔◌, ◌++◌, Err, All, true, false, IfOk, OnOk, OnErr, length};
+ghost use Rattle.std.specs.Borrow.{sem};
+ghost use Rattle.std.specs.Int.{w32, to_le_bytes};
+ghost use Rattle.vm_pages.specs.Pages.{contains, count, insert_all, remove_all};
+ghost use Rattle.vm_balloon.specs.Room.{HasRoomFor, KeepsRoom};
+ghost use Rattle.vm_balloon.specs.Service.{numbers_in, refused, inflated_by, deflated_by};
+ghost use Rattle.vm_balloon.specs.Device.{device_of, posted_count, with_posted, names, with_early_use, inflated, deflated, bad, last_stats, served, IsGood};
+
+use crate::buffer::{Buffer, MOST_BYTES};
+use crate::page_queue::PageQueue;
+use crate::service::{clear_listed, deflate, inflate, push_within, read_numbers};
+use crate::{PostError, Stats};
+use std::alloc::{AllocError, Global};
+use std::marker::Model;
+use vm_pages::PageSet;
+
+/// How many page numbers a buffer can have.
+const MOST_NUMBERS: usize = 256;
+
+/// A virtqueue of the balloon (VIRTIO 1.2, section 5.5.2).
+#[derive(Clone, Copy, Debug, PartialEq, Eq)]
+pub enum Queue {
+    /// inflateq: page numbers that the guest gives up.
+    Inflate,
+    /// deflateq: page numbers that the guest wants back.
+    Deflate,
+    /// statsq: what the guest's driver says of its memory.
+    Statistics,
+}
+
+/// What one service of the device did.
+#[derive(Debug, Drop)]
+pub struct Served {
+    /// The pages that were put into the balloon, in order.
+    pub inflated: Vec<u32>,
+    /// The pages that were given back to the guest, in order.
+    pub deflated: Vec<u32>,
+    /// How many items of the page buffers were ignored.
+    pub bad: u32,
+}
+
+/// The balloon device of one guest: its configuration space, its three queues of posted buffers, and the sets of the guest's
+/// pages that are in the balloon, or were used early (VIRTIO 1.2, section 5.5; Waldspurger, OSDI 2002, section 3.2).
+///
+/// Clauses read it as `DeviceState` of `specs/Device.antt`. Pages are of 4096 bytes and numbered from 0.
+///
+/// No call but [`Device::new`] takes memory. `post` takes time for the bytes posted, `serve` for the bytes posted since the last
+/// service and the pages used early; every other call takes constant time.
+#[derive(Drop)]
+pub struct Device {
+    size: u32,
+    buffers: u32,
+    balloon: PageSet,
+    early: PageSet,
+    // The pages used early since the last service, each once.
+    early_list: Vec<u32>,
+    inflates: PageQueue,
+    deflates: PageQueue,
+    reports: Vec<Buffer>,
+    num_pages: u32,
+    actual: u32,
+    stats: Stats,
+    // Page numbers while they are served.
+    numbers: Vec<u32>,
+    // The last service.
+    served: Served,
+}
+
+impl Model for Device {
+    ghost use Rattle.vm_balloon.specs.Device.{DeviceState};
+
+    ghost Value = { DeviceState };
+
+    ghost use Rattle.vm_balloon.specs.DeviceFields.{state_of, IsDevice};
+
+    ghost view = { state_of };
+
+    ghost invariant = { IsDevice };
+}
+
+impl Device {
+    ghost use Rattle.vm_balloon.specs.Lending.{EndsAs};
+
+    /// The device of a guest of `size` pages, to which `buffers` buffers can be posted between two services. The balloon is empty,
+    /// nothing is posted, both numbers of the configuration space are 0, and there are no statistics.
+    ///
+    /// An `Err` means that memory was refused.
+    pub fn new(alloc: Global, size: u32, buffers: u32) -> Result<Self, AllocError>
+        requires size_in_range { size ≤ 262144 }
+        requires buffers_in_range { buffers ≤ 256 }
+        ensures { IfOk result (λ device. device ≡ device_of size buffers) }
+    {
+        let room = buffers as usize;
+        Ok(Device {
+            size,
+            buffers,
+            balloon: PageSet::new(alloc, size)?,
+            early: PageSet::new(alloc, size)?,
+            early_list: Vec::with_capacity(alloc, size as usize)?,
+            inflates: PageQueue::new(alloc, size, room)?,
+            deflates: PageQueue::new(alloc, size, room)?,
+            reports: Vec::with_capacity(alloc, room)?,
+            num_pages: 0,
+            actual: 0,
+            stats: Stats::default(),
+            numbers: Vec::with_capacity(alloc, MOST_NUMBERS * room)?,
+            served: Served {
+                inflated: Vec::with_capacity(alloc, MOST_NUMBERS * room)?,
+                deflated: Vec::with_capacity(alloc, MOST_NUMBERS * room)?,
+                bad: 0,
+            },
+        })
+    }
+
+    /// Posts a buffer to a queue, where it stays until the next service.
+    ///
+    /// `TooLong` where it has more than 1024 bytes, also where there is no room for it; else `Full` where as many buffers are
+    /// posted as the device has. A refusal changes nothing.
+    pub fn post(&mut self, queue: Queue, bytes: &[u8]) -> Result<(), PostError>
+        ensures ok { OnOk result (self.new ≡ with_posted self.old queue bytes.now) }
+        ensures err { OnErr result (self.new ≡ self.old) }
+        ensures too_long { (result ≡ Err PostError.TooLong) ↔ (1024 < length bytes.now) }
+        ensures full { (result ≡ Err PostError.Full) ↔ ((length bytes.now ≤ 1024) × (posted_count self.old ≡ self.old.buffers)) }
+    {
+        if bytes.len() > MOST_BYTES {
+            return Err(PostError::TooLong);
+        }
+        let posted = self.inflates.len() + self.deflates.len() + self.reports.len();
+        if posted == self.buffers as usize {
+            return Err(PostError::Full);
+        }
+        match queue {
+            Queue::Inflate => self.inflates.push(bytes),
+            Queue::Deflate => self.deflates.push(bytes),
+            Queue::Statistics => push_within(&mut self.reports, Buffer::of(bytes)),
+        }
+        Ok(())
+    }
+
+    /// How many pages the host wants in the balloon: `num_pages` of the configuration space.
+    pub fn num_pages(&self) -> u32
+        ensures { result ≡ self.now.num_pages }
+    {
+        self.num_pages
+    }
+
+    /// Sets how many pages the host wants in the balloon.
+    pub fn set_num_pages(&mut self, num_pages: u32)
+        ensures { self.new ≡ record self.old { num_pages = num_pages } }
+    {
+        self.num_pages = num_pages;
+    }
+
+    /// How many pages the driver says are in the balloon: `actual` of the configuration space.
+    pub fn actual(&self) -> u32
+        ensures { result ≡ self.now.actual }
+    {
+        self.actual
+    }
+
+    /// Sets how many pages the driver says are in the balloon.
+    pub fn set_actual(&mut self, actual: u32)
+        ensures { self.new ≡ record self.old { actual = actual } }
+    {
+        self.actual = actual;
+    }
+
+    /// The bytes of the configuration space: `num_pages` and then `actual`, each low byte first (VIRTIO 1.2, section 5.5.4).
+    pub fn config(&self) -> [u8; 8]
+        ensures { result ≡ to_le_bytes w32 self.now.num_pages ++ to_le_bytes w32 self.now.actual }
+    {
+        let [n0, n1, n2, n3] = self.num_pages.to_le_bytes();
+        let [a0, a1, a2, a3] = self.actual.to_le_bytes();
+        [n0, n1, n2, n3, a0, a1, a2, a3]
+    }
+
+    /// What the driver said of its guest's memory in the statistics buffer that was served last.
+    pub fn stats(&self) -> Stats
+        ensures { result ≡ self.now.stats }
+    {
+        self.stats
+    }
+
+    /// How many pages are in the balloon.
+    pub fn balloon_len(&self) -> u32
+        ensures value { result ≡ count self.now.balloon }
+
+        // What is true of every device.
+        ensures good { IsGood self.now }
+    {
+        self.balloon.len()
+    }
+
+    /// Whether the page is in the balloon.
+    pub fn is_ballooned(&self, page: u32) -> bool
+        requires { page < self.now.size }
+        ensures { result ≡ contains self.now.balloon page }
+    {
+        self.balloon.contains(page)
+    }
+
+    /// Whether the guest used the page early since the last service.
+    pub fn is_early(&self, page: u32) -> bool
+        requires { page < self.now.size }
+        ensures { result ≡ contains self.now.early page }
+    {
+        self.early.contains(page)
+    }
+
+    /// Whether a posted inflate buffer names the page.
+    pub fn posted_inflate(&self, page: u32) -> bool
+        requires { page < self.now.size }
+        ensures { result ≡ names self.now.inflates page }
+    {
+        self.inflates.names(page)
+    }
+
+    /// Whether a posted deflate buffer names the page.
+    pub fn posted_deflate(&self, page: u32) -> bool
+        requires { page < self.now.size }
+        ensures { result ≡ names self.now.deflates page }
+    {
+        self.deflates.names(page)
+    }
+
+    /// The guest uses a page of the balloon before the device gave it back, as a guest may that did not take the feature
+    /// VIRTIO_BALLOON_F_MUST_TELL_HOST (VIRTIO 1.2, section 5.5.6). The page must not be on its way into the balloon again.
+    pub fn use_early(&mut self, page: u32)
+        requires page_in_range { page < self.old.size }
+        requires ballooned { contains self.old.balloon page ≡ true }
+        requires not_in_flight { names self.old.inflates page ≡ false }
+        ensures { self.new ≡ with_early_use self.old page }
+    {
+        self.balloon.remove(page);
+        self.early.insert(page);
+        self.early_list.push_reserved(page);
+    }
+
+    /// Serves what is posted: all inflate buffers, then all deflate buffers, then the statistics, and lends what that did.
+    /// Afterwards nothing stays posted, and no page counts as used early.
+    ///
+    /// Of the page buffers it ignores, and counts as bad, each page number that is not below the guest's size, an inflate of a
+    /// page in the balloon, a deflate of a page neither in the balloon nor used early, and a rest of 1 to 3 bytes at a buffer's end.
+    pub fn serve(&mut self) -> &Served
+        ensures* device { sem 𝓛 (EndsAs self.entry (served self.old)) }
+        ensures inflated { result.now.inflated.items ≡ inflated self.old }
+        ensures deflated { result.now.deflated.items ≡ deflated self.old }
+        ensures bad { result.now.bad ≡ bad self.old }
+
+        // Pages of the guest alone are inflated or deflated.
+        ensures inflated_pages { All (λ page. page < self.old.size) result.now.inflated.items }
+        ensures deflated_pages { All (λ page. page < self.old.size) result.now.deflated.items }
+    {
+        serve_pages(
+            &self.inflates,
+            &self.deflates,
+            &mut self.balloon,
+            &mut self.early,
+            &mut self.numbers,
+            &mut self.served,
+        );
+        clear_listed(&mut self.early_list, &mut self.early);
+        self.stats = last_stats(self.stats, &self.reports);
+        self.inflates.clear();
+        self.deflates.clear();
+        self.reports.clear();
+        &self.served
+    }
+}
+
+// Serves the page buffers: all inflate buffers, then all deflate buffers.
+fn serve_pages(
+    inflates: &PageQueue,
+    deflates: &PageQueue,
+    balloon: &mut PageSet,
+    early: &mut PageSet,
+    numbers: &mut Vec<u32>,
+    served: &mut Served,
+)
+    requires size { length balloon.old ≡ inflates.now.size }
+    requires same_pages { length early.old ≡ length balloon.old }
+    requires few_inflates { length inflates.now.buffers ≤ 256 }
+    requires few_deflates { length deflates.now.buffers ≤ 256 }
+    requires room_inflates { HasRoomFor numbers.old inflates.now.buffers }
+    requires room_deflates { HasRoomFor numbers.old deflates.now.buffers }
+    requires room_inflated { HasRoomFor served.old.inflated inflates.now.buffers }
+    requires room_deflated { HasRoomFor served.old.deflated deflates.now.buffers }
+    ensures inflated { served.new.inflated.items ≡ inflated_by balloon.old (numbers_in inflates.now.buffers) }
+    ensures deflated { served.new.deflated.items ≡ deflated_by (insert_all balloon.old served.new.inflated.items) early.old (numbers_in deflates.now.buffers) }
+    ensures inflated_pages { All (λ page. page < length balloon.old) served.new.inflated.items }
+    ensures deflated_pages { All (λ page. page < length balloon.old) served.new.deflated.items }
+    ensures bad { served.new.bad ≡ refused inflates.now.buffers served.new.inflated.items + refused deflates.now.buffers served.new.deflated.items }
+    ensures balloon { balloon.new ≡ remove_all (insert_all balloon.old served.new.inflated.items) served.new.deflated.items }
+    ensures early { early.new ≡ remove_all early.old served.new.deflated.items }
+    ensures same_balloon_size { length balloon.new ≡ length balloon.old }
+    ensures same_early_size { length early.new ≡ length balloon.old }
+    ensures numbers_room { KeepsRoom numbers.old numbers.new }
+    ensures inflated_room { KeepsRoom served.old.inflated served.new.inflated }
+    ensures deflated_room { KeepsRoom served.old.deflated served.new.deflated }
+{
+    let size = inflates.size();
+    let ragged_inflates = read_numbers(inflates.buffers(), numbers);
+    inflate(numbers, size, balloon, &mut served.inflated);
+    let refused_inflates = (numbers.len() - served.inflated.len()) as u32;
+    let ragged_deflates = read_numbers(deflates.buffers(), numbers);
+    deflate(numbers, size, balloon, early, &mut served.deflated);
+    let refused_deflates = (numbers.len() - served.deflated.len()) as u32;
+    served.bad = ragged_inflates + refused_inflates + (ragged_deflates + refused_deflates);
+}
+
+// The statistics once reports came, the last of which counts.
+fn last_stats(stats: Stats, reports: &[Buffer]) -> Stats
+    ensures { result ≡ last_stats stats reports.now }
+{
+    match reports.last() {
+        Some(report) => Stats::in_buffer(report.bytes()),
+        None => stats,
+    }
+}

@@ -1,0 +1,145 @@
+ghost use Rattle.std.specs.Prelude.{◌≡◌, ◌+◌, ◌*◌, ◌<◌, ◌≤◌, [], ◌∷◌, ◌++◌, All, length, vec_len};
+ghost use Rattle.std.specs.Bool.{OnTrue};
+ghost use Rattle.std.specs.Vec.{vec_capacity};
+ghost use Rattle.vm_balloon.specs.Room.{HasRoomFor, KeepsRoom};
+ghost use Rattle.vm_pages.specs.Pages.{no_pages, insert_all, remove_all};
+ghost use Rattle.vm_balloon.specs.Service.{numbers_in, ragged, can_inflate, can_deflate, inflated_by, deflated_by};
+ghost use Rattle.vm_balloon.specs.Virtio.{page_numbers};
+ghost use Rattle.vm_balloon.specs.DeviceFields.{AreListed};
+
+use crate::buffer::Buffer;
+use crate::virtio::{page_count, page_number};
+use vm_pages::PageSet;
+
+/// Puts pages into the balloon of a guest of `size` pages, and lists those that were not in it yet.
+pub fn inflate(numbers: &[u32], size: u32, balloon: &mut PageSet, inflated: &mut Vec<u32>)
+    requires size { length balloon.old ≡ size }
+    requires room { length numbers.now ≤ vec_capacity inflated.old }
+    ensures inflated { inflated.new.items ≡ inflated_by balloon.old numbers.now }
+    ensures pages { All (λ page. page < length balloon.old) inflated.new.items }
+    ensures balloon { balloon.new ≡ insert_all balloon.old inflated.new.items }
+    ensures same_pages { length balloon.new ≡ length balloon.old }
+    ensures no_more { vec_len inflated.new ≤ length numbers.now }
+    ensures room { KeepsRoom inflated.old inflated.new }
+{
+    inflated.clear();
+    for number in numbers {
+        let page = *number;
+        if can_inflate(size, balloon, page) {
+            balloon.insert(page);
+            push_within(inflated, page);
+        }
+    }
+}
+
+/// Takes pages of a guest of `size` pages out of the balloon and from those used early, and lists those that were there.
+pub fn deflate(
+    numbers: &[u32],
+    size: u32,
+    balloon: &mut PageSet,
+    early: &mut PageSet,
+    deflated: &mut Vec<u32>,
+)
+    requires room { length numbers.now ≤ vec_capacity deflated.old }
+    requires size { length balloon.old ≡ size }
+    requires same_pages { length early.old ≡ length balloon.old }
+    ensures deflated { deflated.new.items ≡ deflated_by balloon.old early.old numbers.now }
+    ensures pages { All (λ page. page < length balloon.old) deflated.new.items }
+    ensures balloon { balloon.new ≡ remove_all balloon.old deflated.new.items }
+    ensures early { early.new ≡ remove_all early.old deflated.new.items }
+    ensures same_pages { (length balloon.new ≡ length balloon.old) × (length early.new ≡ length early.old) }
+    ensures no_more { vec_len deflated.new ≤ length numbers.now }
+    ensures room { KeepsRoom deflated.old deflated.new }
+{
+    deflated.clear();
+    for number in numbers {
+        let page = *number;
+        if can_deflate(size, balloon, early, page) {
+            balloon.remove(page);
+            early.remove(page);
+            push_within(deflated, page);
+        }
+    }
+}
+
+fn can_inflate(size: u32, balloon: &PageSet, page: u32) -> bool
+    requires { length balloon.now ≡ size }
+    ensures value { result ≡ can_inflate balloon.now page }
+    ensures within { OnTrue result (page < length balloon.now) }
+{
+    page < size && !balloon.contains(page)
+}
+
+fn can_deflate(size: u32, balloon: &PageSet, early: &PageSet, page: u32) -> bool
+    requires size { length balloon.now ≡ size }
+    requires same_pages { length early.now ≡ length balloon.now }
+    ensures value { result ≡ can_deflate balloon.now early.now page }
+    ensures within { OnTrue result (page < length balloon.now) }
+{
+    page < size && (balloon.contains(page) || early.contains(page))
+}
+
+/// Reads the page numbers of page buffers, buffer by buffer, and counts the buffers that end in bytes which are no page number.
+pub fn read_numbers(buffers: &[Buffer], numbers: &mut Vec<u32>) -> u32
+    requires few { length buffers.now ≤ 256 }
+    requires room { HasRoomFor numbers.old buffers.now }
+    ensures numbers { numbers.new.items ≡ numbers_in buffers.now }
+    ensures ragged { result ≡ ragged buffers.now }
+    ensures no_more { vec_len numbers.new ≤ 256 * length buffers.now }
+    ensures room { KeepsRoom numbers.old numbers.new }
+{
+    numbers.clear();
+    let mut ragged = 0;
+    for buffer in buffers {
+        let bytes = buffer.bytes();
+        push_numbers(bytes, numbers);
+        if bytes.len() % 4 != 0 {
+            ragged += 1;
+        }
+    }
+    ragged
+}
+
+#[tactic(auto, using(crate::proofs::VirtioLemmas::map_numbered_more))]
+fn push_numbers(bytes: &[u8], numbers: &mut Vec<u32>)
+    requires few { length bytes.now ≤ 1024 }
+    requires room { vec_len numbers.old + 256 ≤ vec_capacity numbers.old }
+    ensures numbers { numbers.new.items ≡ numbers.old.items ++ page_numbers bytes.now }
+    ensures no_more { vec_len numbers.new ≤ vec_len numbers.old + 256 }
+    ensures room { KeepsRoom numbers.old numbers.new }
+{
+    for i in 0..page_count(bytes) {
+        push_within(numbers, page_number(bytes, i));
+    }
+}
+
+/// Empties a set by the list of what may be in it, in time for the list.
+pub fn clear_listed(list: &mut Vec<u32>, pages: &mut PageSet)
+    requires { AreListed pages.old list.old.items (length pages.old) }
+    ensures pages { pages.new ≡ no_pages (length pages.old) }
+    ensures list { list.new.items ≡ [] }
+    ensures room { KeepsRoom list.old list.new }
+{
+    remove_listed(list, pages);
+    list.clear();
+}
+
+// Takes the pages of a list out of a set.
+fn remove_listed(list: &[u32], pages: &mut PageSet)
+    requires { All (λ page. page < length pages.old) list.now }
+    ensures { pages.new ≡ remove_all pages.old list.now }
+{
+    for &page in list {
+        pages.remove(page);
+    }
+}
+
+/// A push for which there is room, so that it takes no memory.
+pub fn push_within<T: Drop>(items: &mut Vec<T>, item: T)
+    requires room { vec_len items.old < vec_capacity items.old }
+    ensures items { items.new.items ≡ items.old.items ++ item ∷ [] }
+    ensures len { vec_len items.new ≡ vec_len items.old + 1 }
+    ensures room { KeepsRoom items.old items.new }
+{
+    items.push_reserved(item);
+}

@@ -1,0 +1,5 @@
+pub mod Sums
+pub mod Rounds
+pub mod Slots
+pub mod Tickets
+pub mod Shown

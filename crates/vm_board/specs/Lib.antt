@@ -1,0 +1,9 @@
+pub mod Sums
+pub mod Pieces
+pub mod Values
+pub mod Rounds
+pub mod States
+pub mod Boards
+pub mod Hands
+pub mod Tickets
+pub mod Shown
