@@ -1,7 +1,7 @@
-ghost use Rattle.std.specs.Prelude.{◌≡◌, ◌+◌, ◌*◌, ◌<◌, ◌≤◌, ◌↔◌, ◌++◌, Err, All, true, false, IfOk, OnOk, OnErr, length};
+ghost use Rattle.std.specs.Prelude.{◌≡◌, ◌+◌, ◌*◌, ◌<◌, ◌≤◌, ◌↔◌, ◌++◌, Err, All, true, false, IfOk, OnOk, OnErr, length, take, vec_capacity};
 ghost use Rattle.std.specs.Borrow.{sem};
 ghost use Rattle.std.specs.Int.{w32, to_le_bytes};
-ghost use Rattle.vm_pages.specs.Pages.{contains, count, insert_all, remove_all};
+ghost use Rattle.vm_pages.specs.Pages.{contains, count, members, insert_all, remove_all};
 ghost use Rattle.vm_balloon.specs.Room.{HasRoomFor, KeepsRoom};
 ghost use Rattle.vm_balloon.specs.Service.{numbers_in, refused, inflated_by, deflated_by};
 ghost use Rattle.vm_balloon.specs.Device.{device_of, posted_count, with_posted, names, with_early_use, inflated, deflated, bad, last_stats, served, IsGood};
@@ -45,7 +45,8 @@ pub struct Served {
 /// Clauses read it as `DeviceState` of `specs/Device.antt`. Pages are of 4096 bytes and numbered from 0.
 ///
 /// No call but [`Device::new`] takes memory. `post` takes time for the bytes posted, `serve` for the bytes posted since the last
-/// service and the pages used early; every other call takes constant time.
+/// service and the pages used early, and `list_ballooned` takes the time of [`PageSet::list_least`]; every other call takes
+/// constant time.
 #[derive(Drop)]
 pub struct Device {
     size: u32,
@@ -197,6 +198,17 @@ impl Device {
         ensures { result ≡ contains self.now.balloon page }
     {
         self.balloon.contains(page)
+    }
+
+    /// Makes `pages` the list of the least pages in the balloon, at most `most` of them, least first, in the room that `pages`
+    /// has: what a driver asks for before it posts pages to be taken back. They stay in the balloon.
+    pub fn list_ballooned(&self, most: u32, pages: &mut Vec<u32>)
+        requires room { most ≤ vec_capacity pages.old }
+        ensures listed { pages.new.items ≡ take most (members self.now.balloon) }
+        ensures in_range { All (λ page. page < self.now.size) pages.new.items }
+        ensures room { vec_capacity pages.new ≡ vec_capacity pages.old }
+    {
+        self.balloon.list_least(most, pages);
     }
 
     /// Whether the guest used the page early since the last service.

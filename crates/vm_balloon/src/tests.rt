@@ -37,6 +37,20 @@ fn service(rt: HostRuntime) -> Result<(), Fail> {
 }
 
 #[test]
+fn ballooned_pages_are_listed(rt: HostRuntime) -> Result<(), Fail> {
+    let mut device = Device::new(rt.alloc(), 8, 2)?;
+    let six_one_and_four = [6, 0, 0, 0, 1, 0, 0, 0, 4, 0, 0, 0];
+    assert_eq!(rt; device.post(Queue::Inflate, &six_one_and_four), Ok(()));
+    check_service(&rt, &mut device, &[6, 1, 4], &[], 0);
+    let mut pages = Vec::with_capacity(rt.alloc(), 4)?;
+    device.list_ballooned(2, &mut pages);
+    assert_eq!(rt; pages.as_slice(), [1, 4].as_slice());
+    device.list_ballooned(4, &mut pages);
+    assert_eq!(rt; pages.as_slice(), [1, 4, 6].as_slice());
+    Ok(())
+}
+
+#[test]
 fn refused_posts(rt: HostRuntime) -> Result<(), Fail> {
     let mut device = Device::new(rt.alloc(), 4, 2)?;
     assert_eq!(rt; device.post(Queue::Inflate, &[]), Ok(()));

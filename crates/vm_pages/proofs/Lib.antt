@@ -1,3 +1,4 @@
 mod BlockLemmas
+mod ExtremeLemmas
 pub mod PageSets
 pub mod Listings

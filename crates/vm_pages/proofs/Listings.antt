@@ -1,8 +1,9 @@
 -- For callers: the pages of a set in rising order, by place and after a change.
-use Rattle.std.proofs.Common.{◌≡◌, ℕ, zero, suc, ◌+◌, ◌<◌, ◌≤◌, ◌↔◌, Bool, true, false, cond, List, [], ◌∷◌, ◌++◌, length, take, drop, set, get_or, refl, sym, ap, ◌∙◌, inl, inr, one-add, add-one, arith}
-use Rattle.std.specs.List.{Contains}
+use Rattle.std.proofs.Common.{◌≡◌, ℕ, zero, suc, ◌+◌, ◌-◌, ◌<◌, ◌≤◌, ◌↔◌, Bool, true, false, cond, List, [], ◌∷◌, ◌++◌, length, reverse, take, drop, set, get_or, refl, sym, ap, ◌∙◌, inl, inr, one-add, add-one, arith}
+use Rattle.std.specs.List.{All, Contains}
 use Rattle.std.specs.List.Sorted.{IsStrictlyIncreasing}
-use Rattle.std.proofs.lemmas.List.{take_all, take-take, take-set-le, get_or_read}
+use Rattle.std.proofs.lemmas.List.{take_all, take-take, take-set-le, get_or_read, get_or-reverse, length-reverse}
+use Rattle.std.proofs.lemmas.List.Elements.{All-from_get_or}
 use Rattle.std.proofs.lemmas.Bool.{cases_lt}
 use Rattle.std.proofs.lemmas.List.Sums.{sum_by-cons, sum_by_more, sum_by_from, sum_by-take-le}
 use Rattle.vm_pages.specs.Pages.{no_pages, contains, insert, remove, count, count_below, members, members_from}
@@ -97,6 +98,15 @@ count_below-nth pages k few =
 -- each page of the set is listed at the place that those below it leave
 pub nth-count_below : (pages : List Bool) (page : ℕ) → contains pages page ≡ true → get_or (members pages) (count_below pages page) 0 ≡ page
 nth-count_below pages page there = omega (arith, members-count_below 0 pages page 0 (lt-length pages page there) there)
+
+-- the listing has pages of the guest alone
+pub All-members : (pages : List Bool) → All (λ page. page < length pages) (members pages)
+All-members pages = All-from_get_or (λ page. page < length pages) (members pages) 0 (λ k within. nth-lt-length pages k (omega (arith, length-members pages)))
+
+pub All-reverse_members : (pages : List Bool) → All (λ page. page < length pages) (reverse (members pages))
+All-reverse_members pages = λ k d within.
+    let there : k < length (members pages) = omega (arith, length-reverse (members pages)) in
+    rw (get_or-reverse (members pages) k d there) (All-members pages (length (members pages) - 1 - k) d (omega arith))
 
 -- the listing rises
 pub IsStrictlyIncreasing-members : (pages : List Bool) → IsStrictlyIncreasing (members pages)

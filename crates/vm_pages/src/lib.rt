@@ -1,4 +1,4 @@
-//! Sets of the pages of a guest, which find their k-th page in order.
+//! Sets of the pages of a guest, which find their k-th page in order, and list their greatest and their least ones.
 #![tactic(auto)]
 
 pub mod page_set;

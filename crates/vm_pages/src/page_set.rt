@@ -1,5 +1,7 @@
-ghost use Rattle.std.specs.Prelude.{◌≡◌, ◌+◌, ◌<◌, ◌↔◌, not, length, take, sum, slice_index, IfOk, IsTrue};
+ghost use Rattle.std.specs.Prelude.{◌≡◌, ◌+◌, ◌*◌, ◌^◌, ◌<◌, ◌≤◌, ◌↔◌, All, [], not, length, reverse, take, sum, slice_index, vec_capacity, IfOk, IsTrue};
 ghost use Rattle.vm_pages.specs.Pages.{no_pages, contains, insert, remove, count, count_below, members};
+ghost use Rattle.vm_pages.specs.Blocks.{AreCounted};
+ghost use Rattle.vm_pages.specs.Extremes.{greatest_from, least_below};
 
 use std::alloc::{AllocError, Global};
 use std::marker::Model;
@@ -13,7 +15,8 @@ const BLOCK_PAGES: usize = 256;
 /// stand in `specs/Pages.antt`. No call but [`PageSet::new`] takes memory.
 ///
 /// It keeps one mark for each page and one count for each block of 256 pages. So [`PageSet::nth`] passes over the counts and
-/// then over one block; all other calls take constant time.
+/// then over one block, [`PageSet::list_greatest`] and [`PageSet::list_least`] pass over the counts and over the blocks of the
+/// pages that they list, and all other calls take constant time.
 #[derive(Drop)]
 pub struct PageSet {
     marks: Vec<bool>,
@@ -115,6 +118,36 @@ impl PageSet {
         let (block, left) = block_of(&self.counts, k);
         nth_from(&self.marks, block * BLOCK_PAGES, left) as u32
     }
+
+    /// Makes `pages` the list of the greatest pages of the set, at most `most` of them, greatest first, in the room that
+    /// `pages` has. The pages of the set stay in it.
+    ///
+    /// It passes once over the counts of the blocks, from the last one down, and over the marks of those blocks that have pages
+    /// of the set, and stops at `most` pages.
+    pub fn list_greatest(&self, most: u32, pages: &mut Vec<u32>)
+        requires room { most ≤ vec_capacity pages.old }
+        ensures listed { pages.new.items ≡ take most (reverse (members self.now)) }
+        ensures in_range { All (λ page. page < length self.now) pages.new.items }
+        ensures room { vec_capacity pages.new ≡ vec_capacity pages.old }
+    {
+        pages.clear();
+        list_greatest_of(&self.counts, &self.marks, most as usize, pages);
+    }
+
+    /// Makes `pages` the list of the least pages of the set, at most `most` of them, least first, in the room that `pages` has.
+    /// The pages of the set stay in it.
+    ///
+    /// It passes once over the counts of the blocks, from the first one up, and over the marks of those blocks that have pages
+    /// of the set, and stops at `most` pages.
+    pub fn list_least(&self, most: u32, pages: &mut Vec<u32>)
+        requires room { most ≤ vec_capacity pages.old }
+        ensures listed { pages.new.items ≡ take most (members self.now) }
+        ensures in_range { All (λ page. page < length self.now) pages.new.items }
+        ensures room { vec_capacity pages.new ≡ vec_capacity pages.old }
+    {
+        pages.clear();
+        list_least_of(&self.counts, &self.marks, most as usize, pages);
+    }
 }
 
 // The block that has the k-th page, and how many pages of the set stand before that page in the block.
@@ -153,6 +186,84 @@ fn nth_from(marks: &[bool], start: usize, k: u32) -> usize
     unreachable!()
 }
 
+// Lists the greatest pages, block by block from the last one down.
+fn list_greatest_of(counts: &[u32], marks: &[bool], most: usize, pages: &mut Vec<u32>)
+    requires counted { AreCounted marks.now counts.now (count marks.now) }
+    requires empty { pages.old.items ≡ [] }
+    requires room { most ≤ vec_capacity pages.old }
+    ensures listed { pages.new.items ≡ take most (reverse (members marks.now)) }
+    ensures room { vec_capacity pages.new ≡ vec_capacity pages.old }
+{
+    for block in (0..counts.len()).rev() {
+        if pages.len() >= most {
+            return;
+        }
+        if counts[block] > 0 {
+            list_block_down(marks, block, most, pages);
+        }
+    }
+}
+
+// Adds the pages of a block to a list of the greatest ones, until it has `most`.
+fn list_block_down(marks: &[bool], block: usize, most: usize, pages: &mut Vec<u32>)
+    requires fits { length marks.now < 2 ^ 32 }
+    requires within { block * 256 < length marks.now }
+    requires before { pages.old.items ≡ greatest_from marks.now ((block + 1) * 256) most }
+    requires room { most ≤ vec_capacity pages.old }
+    ensures after { pages.new.items ≡ greatest_from marks.now (block * 256) most }
+    ensures room { vec_capacity pages.new ≡ vec_capacity pages.old }
+{
+    let start = block * BLOCK_PAGES;
+    let end = marks.len().min(start + BLOCK_PAGES);
+    for page in (start..end).rev() {
+        if pages.len() >= most {
+            return;
+        }
+        if marks[page] {
+            pages.push_reserved(page as u32);
+        }
+    }
+}
+
+// Lists the least pages, block by block from the first one up.
+fn list_least_of(counts: &[u32], marks: &[bool], most: usize, pages: &mut Vec<u32>)
+    requires counted { AreCounted marks.now counts.now (count marks.now) }
+    requires empty { pages.old.items ≡ [] }
+    requires room { most ≤ vec_capacity pages.old }
+    ensures listed { pages.new.items ≡ take most (members marks.now) }
+    ensures room { vec_capacity pages.new ≡ vec_capacity pages.old }
+{
+    for (block, &count) in counts.iter().enumerate() {
+        if pages.len() >= most {
+            return;
+        }
+        if count > 0 {
+            list_block_up(marks, block, most, pages);
+        }
+    }
+}
+
+// Adds the pages of a block to a list of the least ones, until it has `most`.
+fn list_block_up(marks: &[bool], block: usize, most: usize, pages: &mut Vec<u32>)
+    requires fits { length marks.now < 2 ^ 32 }
+    requires within { block * 256 < length marks.now }
+    requires before { pages.old.items ≡ least_below marks.now (block * 256) most }
+    requires room { most ≤ vec_capacity pages.old }
+    ensures after { pages.new.items ≡ least_below marks.now ((block + 1) * 256) most }
+    ensures room { vec_capacity pages.new ≡ vec_capacity pages.old }
+{
+    let start = block * BLOCK_PAGES;
+    let end = marks.len().min(start + BLOCK_PAGES);
+    for page in start..end {
+        if pages.len() >= most {
+            return;
+        }
+        if marks[page] {
+            pages.push_reserved(page as u32);
+        }
+    }
+}
+
 #[cfg(test)]
 mod tests {
     use super::*;
@@ -176,6 +287,27 @@ mod tests {
         assert!(rt; set.contains(256));
         assert_eq!(rt; set.len(), 3);
         assert_eq!(rt; set.nth(1), 256);
+        Ok(())
+    }
+
+    #[test]
+    fn extremes_are_listed_over_blocks(rt: HostRuntime) -> Result<(), Fail> {
+        let mut set = PageSet::new(rt.alloc(), 600)?;
+        assert!(rt; set.insert(256));
+        assert!(rt; set.insert(0));
+        assert!(rt; set.insert(599));
+        assert!(rt; set.insert(255));
+        let mut pages = Vec::with_capacity(rt.alloc(), 8)?;
+        set.list_greatest(3, &mut pages);
+        assert_eq!(rt; pages.as_slice(), [599, 256, 255].as_slice());
+        set.list_least(2, &mut pages);
+        assert_eq!(rt; pages.as_slice(), [0, 255].as_slice());
+        set.list_greatest(8, &mut pages);
+        assert_eq!(rt; pages.as_slice(), [599, 256, 255, 0].as_slice());
+        set.list_least(8, &mut pages);
+        assert_eq!(rt; pages.as_slice(), [0, 255, 256, 599].as_slice());
+        set.list_greatest(0, &mut pages);
+        assert!(rt; pages.is_empty());
         Ok(())
     }
 }
