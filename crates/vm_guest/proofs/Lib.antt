@@ -1,9 +1,35 @@
-mod ByteLemmas
-pub mod NumberLemmas
-mod HoldingLemmas
-mod MemoryLemmas
-pub mod LastWriteLemmas
-pub mod SoundLemmas
-pub mod WrittenLemmas
-pub mod ReadLemmas
+pub mod BoundaryLemmas
+pub mod ByteLemmas
+pub mod ChangeLemmas
+pub mod ContentLemmas
+pub mod DriverLemmas
 pub mod EpochLemmas
+pub mod FirstLemmas
+pub mod FitLemmas
+pub mod FreeLemmas
+pub mod GuestLemmas
+pub mod HeldLemmas
+pub mod HoldingLemmas
+pub mod KeptLemmas
+pub mod LastWriteLemmas
+pub mod MemoryLemmas
+pub mod NumberLemmas
+pub mod OnlyGuestLemmas
+pub mod OpenLemmas
+pub mod PagePlaceLemmas
+pub mod PageSetLemmas
+pub mod PartLemmas
+pub mod PieceLemmas
+pub mod PlaceLemmas
+pub mod PostLemmas
+pub mod ReadLemmas
+pub mod RunLemmas
+pub mod SamplingLemmas
+pub mod ServiceLemmas
+pub mod SlotLemmas
+pub mod SoundLemmas
+pub mod StartLemmas
+pub mod StepLemmas
+pub mod Validation
+pub mod WordLemmas
+pub mod WrittenLemmas

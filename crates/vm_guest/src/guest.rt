@@ -1,27 +1,37 @@
-ghost use Rattle.std.specs.Prelude.{◌≡◌, ◌+◌, ◌<◌, ◌≤◌, ◌↔◌, IsTrue, IfOk, IfErr, OnOk, OnErr, true, false};
+ghost use Rattle.std.specs.Prelude.{◌≡◌, ◌+◌, ◌-◌, ◌<◌, ◌≤◌, ◌↔◌, ◌^◌, IsTrue, IsSome, IfOk, IfErr, IfSome, OnOk, OnErr, min, true, false};
 ghost use Rattle.std.specs.Bool.{OnTrue, OnFalse};
 ghost use Rattle.std.specs.FinSet as set;
-ghost use Rattle.vm_guest.specs.Epoch.{epoch, ordered};
-ghost use Rattle.vm_guest.specs.Frames.{GivesOut, TakesBack};
+ghost use Rattle.vm_guest.specs.Boundary.{granted, ordered, released, revoked, serviced, spares_over, with_cap, with_min, with_shares, with_spare, without_spares};
+ghost use Rattle.vm_guest.specs.Frames.{GivesOut, TakesBack, TakesBackSome, with_frame};
+ghost use Rattle.vm_guest.specs.Good.{HasNothingPosted};
 ghost use Rattle.vm_guest.specs.Memory.{bytes_of};
+ghost use Rattle.vm_guest.specs.Record.{reserve};
 ghost use Rattle.vm_guest.specs.Start.{started};
-ghost use Rattle.vm_guest.specs.State.{with_guest};
+ghost use Rattle.vm_guest.specs.State.{state_epoch, with_guest, IsBacked};
 ghost use Rattle.vm_guest.specs.View.{view_of};
 
-use crate::activity::{Activity, run_steps};
 use crate::config::GuestSpec;
+use crate::epoch::run;
 use crate::memory::HeldMemory;
+use crate::parts::GuestParts;
 use crate::reads::PageRead;
-use crate::view::GuestView;
+use crate::release::release;
+use crate::service::serve;
+use crate::start::{Room, first_parts};
+use crate::view::{GuestView, view_of};
 use std::alloc::{AllocError, Global};
 use std::marker::Model;
-use vm_frames::{Machine, PAGE_BYTES};
-use vm_pages::PageSet;
+use vm_balloon::Stats;
+use vm_frames::{Frame, Machine, PAGE_BYTES};
 
 /// A running guest, with the frames that it holds. It has to be stopped.
+///
+/// A contract sees it as a `GuestState`: its record, which is plain data, how many pages its swap area has room for, the numbers
+/// of the frames that it holds, and whether it is prepared for an epoch. Pages and frames have 4096 bytes.
+///
+/// Only [`Guest::start`], [`Guest::prepare`] and [`Guest::grow_swap`] take memory.
 pub struct Guest {
-    spec: GuestSpec,
-    activity: Activity,
+    parts: GuestParts,
     // There is room for the reads of an epoch.
     prepared: bool,
 }
@@ -43,30 +53,26 @@ impl Model for Guest {
 }
 
 impl Guest {
-    /// A guest that starts with its minimum of frames, which the machine has free. All of its memory is zeros.
+    /// A guest that starts with its minimum of frames, which the machine has free. All of its memory is zeros, and it asks for the
+    /// rest of its frames (`virsh start`; allocation by minimum and maximum: Waldspurger, OSDI 2002, section 6.1).
     ///
     /// Where memory is refused, the specification comes back and the machine keeps its frames.
     pub fn start(alloc: Global, spec: GuestSpec, machine: &mut Machine) -> Result<Guest, GuestSpec>
         requires enough { set.len machine.old.out + spec.min ≤ machine.old.total }
         ensures record { IfOk result (λ g. g.guest ≡ started spec) }
+        ensures capacity { IfOk result (λ g. g.capacity ≡ spec.size - spec.min) }
         ensures unprepared { IfOk result (λ g. g.prepared ≡ false) }
         ensures frames { IfOk result (λ g. GivesOut machine.old machine.new g.frames) }
         ensures count { OnOk result (set.len machine.new.out ≡ set.len machine.old.out + spec.min) }
         ensures back { IfErr result (λ back. back ≡ spec) }
         ensures refused { OnErr result (machine.new ≡ machine.old) }
     {
-        let Ok(used) = PageSet::new(alloc, spec.size) else {
+        let Ok(room) = Room::new(alloc, &spec) else {
             return Err(spec);
         };
-        match HeldMemory::new(alloc, spec.size, spec.min, machine) {
+        match HeldMemory::new(alloc, spec.size, spec.min, spec.size - spec.min, machine) {
             Ok(memory) => Ok(Guest {
-                spec,
-                activity: Activity {
-                    memory,
-                    used,
-                    reads: Vec::new(alloc),
-                    position: 0,
-                },
+                parts: first_parts(spec, memory, room),
                 prepared: false,
             }),
             Err(_) => Err(spec),
@@ -78,61 +84,188 @@ impl Guest {
         ensures ok { OnOk result (self.new ≡ record self.old { prepared = true }) }
         ensures err { OnErr result (self.new ≡ self.old) }
     {
-        let left = self.spec.trace.len() - self.activity.position as usize;
-        let room = left.min(self.spec.quantum as usize);
-        self.activity.reads.reserve(room)?;
+        let left = self.parts.spec.trace.len() - self.parts.progress.position as usize;
+        let room = left.min(self.parts.spec.quantum as usize);
+        self.parts.reads.reserve(room)?;
         self.prepared = true;
         Ok(())
     }
 
-    /// Runs an epoch: as many steps as the guest's quantum says, idle ones after its trace. It takes no memory, and the room
-    /// for the next epoch has to be made anew.
+    /// Runs an epoch, unless the guest is blocked: its driver acts, it runs as many steps as its quantum says, idle ones after its
+    /// trace, up to one that stalls, and it tells which pages it used early. It takes no memory, and is no longer prepared.
     pub fn run_epoch(&mut self)
-        requires { self.old.prepared ≡ true }
-        ensures { self.new ≡ record self.old { guest = epoch self.old.guest; prepared = false } }
+        requires prepared { self.old.prepared ≡ true }
+        requires nothing { HasNothingPosted self.old.guest }
+        ensures { self.new ≡ state_epoch self.old }
     {
-        let steps = self.spec.quantum;
-        run_steps(&self.spec, &mut self.activity, steps);
         self.prepared = false;
+        run(&mut self.parts);
     }
 
-    /// Gives the orders for the next epoch: the reads of the last one are over.
-    pub fn order(&mut self)
-        ensures { self.new ≡ with_guest self.old (ordered self.old.guest) }
+    /// Serves the balloon device (OASIS VIRTIO 1.2, section 5.5.6): a page whose inflate is accepted becomes zeros, and its frame a
+    /// spare. Then no buffer is posted, and no page counts as used early.
+    pub fn serve(&mut self)
+        ensures { self.new ≡ with_guest self.old (serviced self.old.guest) }
     {
-        self.activity.reads.clear();
+        serve(&mut self.parts);
+    }
+
+    /// Gives back the spares that are above the target, and tells how many.
+    pub fn spares_back(&mut self, machine: &mut Machine) -> u32
+        requires target { self.old.guest.allotment.target ≤ self.old.guest.memory.held }
+        requires out { IsTrue (set.is_subset self.old.frames machine.old.out) }
+        ensures count { result ≡ spares_over self.old.guest }
+        ensures record { self.new.guest ≡ without_spares self.old.guest }
+        ensures frames { TakesBackSome machine.old machine.new self.old.frames self.new.frames }
+        ensures total { set.len machine.new.out + result ≡ set.len machine.old.out }
+        ensures capacity { self.new.capacity ≡ self.old.capacity }
+        ensures prepared { self.new.prepared ≡ self.old.prepared }
+    {
+        let spares = self.parts.memory.held() - self.parts.memory.resident();
+        let surplus = self.parts.memory.held() - self.parts.allotment.target;
+        let count = spares.min(surplus);
+        release(&mut self.parts, count, machine);
+        count
+    }
+
+    /// Gives back so many frames above the target, one by one: a spare, or else the frame of a victim, which goes to the swap area
+    /// (Waldspurger, OSDI 2002, section 3.1).
+    pub fn release(&mut self, count: u32, machine: &mut Machine)
+        requires few { count ≤ self.old.guest.memory.held - self.old.guest.allotment.target }
+        requires out { IsTrue (set.is_subset self.old.frames machine.old.out) }
+        ensures record { self.new.guest ≡ released count self.old.guest }
+        ensures frames { TakesBackSome machine.old machine.new self.old.frames self.new.frames }
+        ensures total { set.len machine.new.out + count ≡ set.len machine.old.out }
+        ensures capacity { self.new.capacity ≡ self.old.capacity }
+        ensures prepared { self.new.prepared ≡ self.old.prepared }
+    {
+        release(&mut self.parts, count, machine);
+    }
+
+    /// Lowers the target by a frame (Waldspurger, OSDI 2002, section 5.1).
+    pub fn revoke(&mut self)
+        requires { self.old.guest.allotment.min < self.old.guest.allotment.target }
+        ensures { self.new ≡ with_guest self.old (revoked self.old.guest) }
+    {
+        self.parts.allotment.target -= 1;
+    }
+
+    /// Raises the target by a frame that the guest asked for. The frame comes with it exactly where the guest has none above its
+    /// target.
+    pub fn grant(&mut self, frame: Option<Frame>)
+        requires demand { 0 < self.old.guest.allotment.demand }
+        requires room { self.old.guest.allotment.target < self.old.guest.allotment.cap }
+        requires full { IsSome frame ↔ (self.old.guest.memory.held ≡ self.old.guest.allotment.target) }
+        requires new_number { IfSome frame (λ f. set.contains self.old.frames f.number ≡ false) }
+        ensures record { self.new.guest ≡ granted self.old.guest }
+        ensures frames { self.new.frames ≡ with_frame self.old.frames frame }
+        ensures capacity { self.new.capacity ≡ self.old.capacity }
+        ensures prepared { self.new.prepared ≡ self.old.prepared }
+    {
+        if let Some(spare) = frame {
+            self.parts.memory.add_spare(spare);
+        }
+        self.parts.allotment.target += 1;
+        self.parts.allotment.demand -= 1;
+    }
+
+    /// A frame joins the spares of a guest that has fewer frames than its target.
+    pub fn add_spare(&mut self, frame: Frame)
+        requires fewer { self.old.guest.memory.held < self.old.guest.allotment.target }
+        requires new_number { set.contains self.old.frames frame.number ≡ false }
+        ensures record { self.new.guest ≡ with_spare self.old.guest }
+        ensures frames { self.new.frames ≡ set.insert self.old.frames frame.number }
+        ensures capacity { self.new.capacity ≡ self.old.capacity }
+        ensures prepared { self.new.prepared ≡ self.old.prepared }
+    {
+        self.parts.memory.add_spare(frame);
+    }
+
+    /// Sets the most frames that the guest may get (`virsh setmem`). A raised cap is a demand for the difference; the target falls to a
+    /// lowered one.
+    pub fn set_cap(&mut self, cap: u32)
+        requires from { self.old.guest.allotment.min ≤ cap }
+        requires to { cap ≤ self.old.guest.config.size }
+        ensures { self.new ≡ with_guest self.old (with_cap self.old.guest cap) }
+    {
+        let allotment = &mut self.parts.allotment;
+        let more = cap.saturating_sub(allotment.cap);
+        allotment.demand = allotment.demand.saturating_add(u64::from(more));
+        allotment.target = allotment.target.min(cap);
+        allotment.cap = cap;
+    }
+
+    /// Sets the frames that are never taken from the guest (`virsh memtune --min-guarantee`). The target rises to a raised minimum,
+    /// and frames have to come to it then; the swap area has to have room for all pages above the least minimum.
+    pub fn set_min(&mut self, least: u32)
+        requires from { 1 ≤ least }
+        requires to { least ≤ self.old.guest.allotment.cap }
+        requires swap { self.old.guest.config.size - least ≤ self.old.capacity }
+        ensures { self.new ≡ with_guest self.old (with_min self.old.guest least) }
+    {
+        let allotment = &mut self.parts.allotment;
+        allotment.min = least;
+        allotment.least_min = allotment.least_min.min(least);
+        allotment.target = allotment.target.max(least);
+    }
+
+    /// Sets the guest's shares of the machine's memory (Waldspurger, OSDI 2002, section 5.1).
+    pub fn set_shares(&mut self, shares: u32)
+        ensures { self.new ≡ with_guest self.old (with_shares self.old.guest shares) }
+    {
+        self.parts.allotment.shares = shares;
+    }
+
+    /// Makes room in the swap area for so many pages more. Where memory is refused, nothing changes.
+    pub fn grow_swap(&mut self, more: u32) -> Result<(), AllocError>
+        requires { self.old.capacity + more < 2 ^ 32 }
+        ensures ok { OnOk result (self.new ≡ record self.old { capacity = self.old.capacity + more }) }
+        ensures err { OnErr result (self.new ≡ self.old) }
+    {
+        self.parts.memory.grow_swap(more)
+    }
+
+    /// Gives the orders for the next epoch: how many pages are to be in the balloon (`num_pages`: OASIS VIRTIO 1.2, section 5.5.4), and
+    /// whether the guest may run. What the last epoch showed, its reads and the page that it stalled on, is over.
+    pub fn order(&mut self, blocked: bool)
+        ensures { self.new ≡ with_guest self.old (ordered self.old.guest blocked) }
+    {
+        let wanted = self.parts.spec.size - self.parts.allotment.target;
+        self.parts.device.set_num_pages(wanted);
+        self.parts.reads.clear();
+        self.parts.progress.stalled_on = None;
+        self.parts.progress.blocked = blocked;
     }
 
     /// What is shown of the guest.
     pub fn view(&self) -> GuestView
-        ensures { result ≡ view_of self.now.guest }
+        ensures value { result ≡ view_of self.now.guest }
+
+        // What is true of every guest.
+        ensures backed { IsBacked self.now }
     {
-        GuestView {
-            size: self.spec.size,
-            min: self.spec.min,
-            cap: self.spec.size,
-            shares: self.spec.shares,
-            target: self.spec.min,
-            held: self.activity.memory.held(),
-            resident: self.activity.memory.resident(),
-            swapped: 0,
-            used: self.activity.used.len(),
-            balloon: 0,
-            actual: 0,
-            active: ACTIVE,
-            demand: 0,
-            bad: 0,
-            done: self.activity.position,
-            stalled: None,
-            blocked: false,
-        }
+        view_of(&self.parts)
+    }
+
+    /// How many slots of swap are set aside for the guest: one for each page above its least minimum.
+    pub fn reserve(&self) -> u32
+        ensures { result ≡ reserve self.now.guest }
+    {
+        self.parts.spec.size - self.parts.allotment.least_min
     }
 
     /// The reads of the last epoch, in order.
     pub fn reads(&self) -> &[PageRead]
         ensures { result.now ≡ self.now.guest.reads }
     {
-        self.activity.reads.as_slice()
+        self.parts.reads.as_slice()
+    }
+
+    /// What the driver said of the guest's memory in the statistics buffer that was served last (`virsh dommemstat`).
+    pub fn stats(&self) -> Stats
+        ensures { result ≡ self.now.guest.device.stats }
+    {
+        self.parts.device.stats()
     }
 
     /// Copies a page of guest memory, wherever it is. It answers false, and copies nothing, exactly where the page is not below
@@ -142,35 +275,37 @@ impl Guest {
         ensures copied { OnTrue result (bytes.new ≡ bytes_of self.now.guest.memory page) }
         ensures unchanged { OnFalse result (bytes.new ≡ bytes.old) }
     {
-        if page >= self.spec.size {
+        if page >= self.parts.spec.size {
             return false;
         }
-        self.activity.memory.copy_page(page, bytes);
+        self.parts.memory.copy_page(page, bytes);
         true
     }
 
-    /// Ends the guest. All of its frames go back to their machine, and its specification comes back.
+    /// Ends the guest (`virsh destroy`). All of its frames go back to their machine, and its specification comes back.
     pub fn stop(self, machine: &mut Machine) -> GuestSpec
         requires { IsTrue (set.is_subset self.frames machine.old.out) }
         ensures spec { result ≡ self.guest.config }
         ensures frames { TakesBack machine.old machine.new self.frames }
         ensures count { set.len machine.new.out + self.guest.memory.held ≡ set.len machine.old.out }
     {
-        let Guest {
+        let Guest { parts, prepared: _ } = self;
+        let GuestParts {
             spec,
-            activity,
-            prepared: _,
-        } = self;
-        let Activity {
+            allotment: _,
             memory,
             used: _,
+            free: _,
+            device: _,
+            sampler: _,
+            words: _,
+            used_early: _,
             reads: _,
-            position: _,
-        } = activity;
+            counts: _,
+            progress: _,
+            draft: _,
+        } = parts;
         memory.close(spec.size, machine);
         spec
     }
 }
-
-// All of a guest's memory counts as active, in parts of 65536, since nothing samples it yet.
-const ACTIVE: u32 = 65536;

@@ -1,19 +1,39 @@
-// What a guest's memory and its reads show, said by the last write of each byte.
-ghost use Rattle.std.specs.Prelude.{◌≡◌, List, ◌∷◌, ◌++◌, []};
+// What an epoch is, piece by piece, and what a guest's memory and its reads show, said by the last write of each byte.
+ghost use Rattle.std.specs.Prelude.{◌≡◌, ℕ, Bool, List, ◌∷◌, ◌++◌, []};
+ghost use Rattle.vm_guest.specs.Boundary.{serviced, without_spares, released, revoked, granted, with_spare, with_cap, with_min, with_shares, ordered};
 ghost use Rattle.vm_guest.specs.Config.{GuestConfig, IsWithinLimits};
-ghost use Rattle.vm_guest.specs.Epoch.{epoch, ordered};
-ghost use Rattle.vm_guest.specs.Good.{IsSound};
-ghost use Rattle.vm_guest.specs.Happenings.{Happening, Started, epoch_happenings, reads_by, IsWrittenBy};
+ghost use Rattle.vm_guest.specs.Epoch.{epoch, epoch_by_steps, pieces};
+ghost use Rattle.vm_guest.specs.Good.{IsSound, HasNothingPosted};
+ghost use Rattle.vm_guest.specs.Happenings.{Happening, Started, epoch_happenings, service_happenings, reads_by, IsWrittenBy};
 ghost use Rattle.vm_guest.specs.Record.{GuestRecord};
 ghost use Rattle.vm_guest.specs.Start.{started};
+ghost use Rattle.vm_guest.specs.State.{GuestState, after_state_pieces, state_epoch};
 
-/// Each byte of guest memory is that of the last write there, from the guest's start on, and each read of an epoch gives
-/// the last writes of its bytes.
+/// An epoch of a guest, which is all its pieces one after the other, is the first piece, the steps and the last piece, or nothing
+/// for a blocked guest. So it is for what a contract sees of a guest.
+pub fn law_pieces()
+    ensures steps { (g : GuestRecord) → epoch g ≡ epoch_by_steps g }
+    ensures states { (s : GuestState) → after_state_pieces (pieces s.guest) s ≡ state_epoch s }
+{}
+
+/// Each byte of guest memory is that of the last write there, from the guest's start on, and each read of an epoch gives the last
+/// writes of its bytes. A service of the device makes the pages of accepted inflates zeros; no other call at a boundary changes a
+/// byte.
 pub fn law_last_write()
-    ensures started { (c : GuestConfig) → IsWithinLimits c → IsSound (started c) × IsWrittenBy (Started ∷ []) (started c) }
-    ensures epoch { (g : GuestRecord) (before : List Happening) → IsSound g → IsWrittenBy before g
+    ensures started { (c : GuestConfig) → IsWithinLimits c
+        → IsSound (started c) × HasNothingPosted (started c) × IsWrittenBy (Started ∷ []) (started c) }
+    ensures epoch { (g : GuestRecord) (before : List Happening) → IsSound g → HasNothingPosted g → IsWrittenBy before g
         → IsSound (epoch g) × IsWrittenBy (before ++ epoch_happenings g) (epoch g)
         × ((epoch g).reads ≡ g.reads ++ reads_by before (epoch_happenings g)) }
-    ensures ordered { (g : GuestRecord) (before : List Happening) → IsSound g → IsWrittenBy before g
-        → IsSound (ordered g) × IsWrittenBy before (ordered g) }
+    ensures serviced { (g : GuestRecord) (before : List Happening) → IsSound g → IsWrittenBy before g
+        → IsSound (serviced g) × HasNothingPosted (serviced g) × IsWrittenBy (before ++ service_happenings g) (serviced g) }
+    ensures without_spares { (g : GuestRecord) (before : List Happening) → IsWrittenBy before g → IsWrittenBy before (without_spares g) }
+    ensures released { (n : ℕ) (g : GuestRecord) (before : List Happening) → IsWrittenBy before g → IsWrittenBy before (released n g) }
+    ensures revoked { (g : GuestRecord) (before : List Happening) → IsWrittenBy before g → IsWrittenBy before (revoked g) }
+    ensures granted { (g : GuestRecord) (before : List Happening) → IsWrittenBy before g → IsWrittenBy before (granted g) }
+    ensures with_spare { (g : GuestRecord) (before : List Happening) → IsWrittenBy before g → IsWrittenBy before (with_spare g) }
+    ensures with_cap { (g : GuestRecord) (cap : ℕ) (before : List Happening) → IsWrittenBy before g → IsWrittenBy before (with_cap g cap) }
+    ensures with_min { (g : GuestRecord) (least : ℕ) (before : List Happening) → IsWrittenBy before g → IsWrittenBy before (with_min g least) }
+    ensures with_shares { (g : GuestRecord) (shares : ℕ) (before : List Happening) → IsWrittenBy before g → IsWrittenBy before (with_shares g shares) }
+    ensures ordered { (g : GuestRecord) (blocked : Bool) (before : List Happening) → IsWrittenBy before g → IsWrittenBy before (ordered g blocked) }
 {}

@@ -2,4 +2,5 @@ pub mod DomainLemmas
 pub mod SlotLemmas
 pub mod FirstLemmas
 pub mod PartsLemmas
+pub mod ReturnLemmas
 pub mod WorldLemmas

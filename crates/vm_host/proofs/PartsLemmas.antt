@@ -23,10 +23,11 @@ use Rattle.vm_host.specs.Commands.{word_after_start, start_of, start_at, start_b
 use Rattle.vm_host.specs.Domains.{Domain, domains_of, names_of, place_of}
 use Rattle.vm_host.specs.Machine.{MachineConfig}
 use Rattle.vm_host.specs.Parts.{world_of, once_if, IsTied, CanStart}
-use Rattle.vm_host.specs.Slots.{config_in, guest_in, holds, holders, is_empty}
+use Rattle.vm_host.specs.Slots.{config_in, guest_in, holds, holders, is_empty, HasTarget, IsServed}
 use Rattle.vm_host.specs.Starting.{IsStopped, StartsIn}
 use Rattle.vm_host.specs.World.{running, held_by, total_held}
 use Rattle.vm_host.proofs.DomainLemmas.{names_of-domains_of, length-domains_of}
+use Rattle.vm_host.proofs.SlotLemmas.{total_held-set, HasTarget-started, IsServed-started}
 
 pub domain-at : (names : List (List ℕ)) (configs : List GuestConfig) (i : ℕ) (d : GuestConfig) → length names ≡ length configs → i < length configs
     → slice_get (domains_of names configs) i ≡ Some (record { name = get_or names i []; config = get_or configs i d })
@@ -111,12 +112,6 @@ held-stopped (Stopped config) stopped = refl
 held-stopped (Running s) stopped = absurd stopped
 held-stopped Empty stopped = absurd stopped
 
-total_held-set : (slots : List Slot) (i : ℕ) (new d : Slot) → i < length slots
-    → total_held (map guest_in (set slots i new)) + held_by (guest_in (get_or slots i d)) ≡ total_held (map guest_in slots) + held_by (guest_in new)
-total_held-set [] i new d there = absurd (omega (arith, there))
-total_held-set (slot ∷ slots) zero new d there = omega arith
-total_held-set (slot ∷ slots) (suc i) new d there = let rest = total_held-set slots i new d (omega (arith, there)) in omega (arith, rest)
-
 -- what is known of a start
 pub record Started (old new : Parts) (i : ℕ) : Type 0 where
   pub spec : new.spec ≡ old.spec
@@ -189,6 +184,10 @@ started-tied old new i tied can s =
           ∙ one_more (sets.contains s.starts.state.frames n) (sets.contains old.machine.out n) (holders n slots) (s.starts.frames.apart n) (tied.owners n)
           ∙ ap once_if (sym (ap (λ (m : MachineView). sets.contains m.out n) s.starts.frames.all ∙ contains-union nat_cmp_total old.machine.out s.starts.state.frames n));
       held = omega (arith, count, held, one, none, sum, all);
+      targets = subst (All HasTarget) (sym s.slots)
+          (All-set HasTarget slots i s.slot (HasTarget-started s.slot s.starts.state (config_in was) s.starts.running s.starts.record_is) tied.targets);
+      served = λ ready. subst (All IsServed) (sym s.slots)
+          (All-set IsServed slots i s.slot (IsServed-started s.slot s.starts.state (config_in was) s.starts.running s.starts.record_is) (tied.served (sym s.phase ∙ ready)));
     }
 
 -- the decision once the name's place is known

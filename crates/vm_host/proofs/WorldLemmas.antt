@@ -1,5 +1,5 @@
 -- The world of a host after a call.
-use Rattle.std.proofs.Common.{◌≡◌, ℕ, ◌-◌, ◌<◌, ◌≤◌, Bool, true, false, List, [], ◌∷◌, length, map, get_or, refl, sym, ap, ◌∙◌, inl, inr, arith, subst, IsTrue}
+use Rattle.std.proofs.Common.{◌≡◌, ◌≢◌, ℕ, ◌-◌, ◌<◌, ◌≤◌, Bool, true, false, List, [], ◌∷◌, length, map, get_or, refl, sym, ap, ◌∙◌, inl, inr, arith, subst, IsTrue}
 use Rattle.std.specs.Prelude.{All, Option, Some, None, Result, Ok, Err, slice_get, if◌then◌else◌}
 use Rattle.std.specs.Bool.{OnTrue, OnFalse}
 use Rattle.std.specs.Option.{option_map}
@@ -11,12 +11,14 @@ use Rattle.std.proofs.lemmas.List.{length-map, get_or-map, with_items_is}
 use Rattle.std.specs.Vec.{with_items, vec_len}
 use Rattle.std.proofs.lemmas.List.Elements.{All-map}
 use Rattle.vm_frames.specs.Machine.{MachineView}
+use Rattle.vm_guest.specs.Boundary.{ordered, serviced}
 use Rattle.vm_guest.specs.Config.{GuestConfig}
-use Rattle.vm_guest.specs.Epoch.{epoch, ordered}
+use Rattle.vm_guest.specs.Epoch.{epoch}
 use Rattle.vm_guest.specs.Memory.{bytes_of}
 use Rattle.vm_guest.specs.Record.{GuestRecord}
 use Rattle.vm_host.specs.declared.parts.Parts.{Parts}
 use Rattle.vm_host.specs.declared.phase.Phase.{Phase}
+use Rattle.vm_host.specs.declared.phase.Phase.TheVariants.{Waiting, Ready, Failed}
 use Rattle.vm_host.specs.declared.slot.Slot.{Slot}
 use Rattle.vm_host.specs.declared.slot.Slot.TheVariants.{Stopped}
 use Rattle.vm_host.specs.declared.boundary.Refusal.{Refusal}
@@ -25,15 +27,15 @@ use Rattle.vm_host.specs.Domains.{Domain, domains_of, place_of, position_of}
 use Rattle.vm_host.specs.Machine.{MachineConfig}
 use Rattle.vm_host.specs.Parts.{world_of, once_if, IsTied}
 use Rattle.vm_host.specs.Readers.{page_of, page_at, Peeks}
-use Rattle.vm_host.specs.Slots.{config_in, guest_in, holds, holders, is_empty, unprepared, slot_ordered, slot_run}
-use Rattle.vm_host.specs.World.{World, total_held, Conserves}
+use Rattle.vm_host.specs.Slots.{config_in, guest_in, holds, holders, is_empty, unprepared, slot_ordered, slot_run, slot_served, HasTarget, IsServed}
+use Rattle.vm_host.specs.World.{World, held_by, total_held, Conserves}
 use Rattle.vm_host.proofs.PartsLemmas.{names_of-world}
-use Rattle.vm_host.proofs.SlotLemmas.{map-kept, map-changed, holders-kept, none_empty-kept, holds-ordered, holds-run, holds-unprepared, config_in-ordered, config_in-run, config_in-unprepared, guest_in-ordered, guest_in-run, guest_in-unprepared, is_empty-ordered, is_empty-run, is_empty-unprepared, total_held-ordered, total_held-epoch}
+use Rattle.vm_host.proofs.SlotLemmas.{map-kept, map-changed, holders-kept, All-kept, total_held-kept, holds-served, holds-ordered, holds-run, holds-unprepared, config_in-served, config_in-ordered, config_in-run, config_in-unprepared, guest_in-served, guest_in-ordered, guest_in-run, guest_in-unprepared, is_empty-served, is_empty-ordered, is_empty-run, is_empty-unprepared, held-served, held-ordered, held-run, HasTarget-served, HasTarget-ordered, HasTarget-run, HasTarget-unprepared, HasTarget-prepared, IsServed-served, IsServed-ordered, IsServed-unprepared, IsServed-prepared}
 
 pub conserves : (p : Parts) → IsTied p → Conserves (world_of p)
 conserves p tied = let within = tied.within in let held = tied.held in omega (arith, within, held)
 
--- the same frames in the same slots
+-- the same frames in the same slots, where each guest has its target
 pub record KeepsFrames (old new : Parts) : Type 0 where
   pub spec : new.spec ≡ old.spec
   pub names : new.names ≡ old.names
@@ -42,6 +44,8 @@ pub record KeepsFrames (old new : Parts) : Type 0 where
   pub filled : All (λ slot. is_empty slot ≡ false) new.slots.items
   pub owners : (n : ℕ) → holders n new.slots.items ≡ holders n old.slots.items
   pub held : total_held (map guest_in new.slots.items) ≡ total_held (map guest_in old.slots.items)
+  pub targets : All HasTarget new.slots.items
+  pub served : new.phase ≡ Ready → All IsServed new.slots.items
 
 pub tied-kept : (old new : Parts) → IsTied old → KeepsFrames old new → IsTied new
 tied-kept old new tied kept =
@@ -64,53 +68,93 @@ tied-kept old new tied kept =
       within = omega (arith, out, within, frames);
       owners = λ n. kept.owners n ∙ tied.owners n ∙ ap (λ (m : MachineView). once_if (sets.contains m.out n)) (sym kept.machine);
       held = omega (arith, out, held, same_held);
+      targets = kept.targets;
+      served = kept.served;
     }
 
--- a change of each slot that leaves who holds what
-change-keeps : (change : Slot → Slot) (old new : Parts) → ((s : Slot) → is_empty (change s) ≡ is_empty s) → ((n : ℕ) (s : Slot) → holds n (change s) ≡ holds n s)
-    → total_held (map guest_in (map change old.slots.items)) ≡ total_held (map guest_in old.slots.items)
-    → IsTied old → new.spec ≡ old.spec → new.names ≡ old.names → new.machine ≡ old.machine → new.slots.items ≡ map change old.slots.items → KeepsFrames old new
-change-keeps change old new empty keeps held tied spec names machine slots = record {
+-- a change of a slot that leaves who holds what
+pub record KeepsHold (change : Slot → Slot) : Type 0 where
+  pub empty : (s : Slot) → is_empty (change s) ≡ is_empty s
+  pub holds_same : (n : ℕ) (s : Slot) → holds n (change s) ≡ holds n s
+  pub held : (s : Slot) → held_by (guest_in (change s)) ≡ held_by (guest_in s)
+  pub target : (s : Slot) → HasTarget s → HasTarget (change s)
+
+change-keeps : (change : Slot → Slot) (old new : Parts) → KeepsHold change → IsTied old → new.spec ≡ old.spec → new.names ≡ old.names → new.machine ≡ old.machine
+    → new.slots.items ≡ map change old.slots.items → (new.phase ≡ Ready → All IsServed (map change old.slots.items)) → KeepsFrames old new
+change-keeps change old new kept tied spec names machine slots served = record {
   spec = spec;
   names = names;
   machine = machine;
   long = ap length slots ∙ length-map old.slots.items change;
-  filled = subst (λ (xs : List Slot). All (λ slot. is_empty slot ≡ false) xs) (sym slots) (none_empty-kept change empty old.slots.items tied.filled);
-  owners = λ n. ap (holders n) slots ∙ holders-kept change n (keeps n) old.slots.items;
-  held = ap (λ xs. total_held (map guest_in xs)) slots ∙ held;
+  filled = subst (All (λ slot. is_empty slot ≡ false)) (sym slots) (All-kept (λ s. is_empty s ≡ false) change (λ s is. kept.empty s ∙ is) old.slots.items tied.filled);
+  owners = λ n. ap (holders n) slots ∙ holders-kept change n (kept.holds_same n) old.slots.items;
+  held = ap (λ xs. total_held (map guest_in xs)) slots ∙ total_held-kept change kept.held old.slots.items;
+  targets = subst (All HasTarget) (sym slots) (All-kept HasTarget change kept.target old.slots.items tied.targets);
+  served = λ ready. subst (All IsServed) (sym slots) (served ready);
 }
 
-guests-ordered : (slots : List Slot) → map guest_in (map slot_ordered slots) ≡ map (option_map ordered) (map guest_in slots)
-guests-ordered slots = map-changed guest_in slot_ordered (option_map ordered) guest_in-ordered slots
+all_served : (slots : List Slot) → All IsServed (map slot_served slots)
+all_served slots = All-map IsServed slot_served slots (λ i d there. IsServed-served (get_or slots i d))
+
+pub served-keeps : (old new : Parts) → IsTied old → new.spec ≡ old.spec → new.names ≡ old.names → new.machine ≡ old.machine → new.slots.items ≡ map slot_served old.slots.items → KeepsFrames old new
+served-keeps old new tied spec names machine slots =
+    change-keeps slot_served old new (record { empty = is_empty-served; holds_same = holds-served; held = held-served; target = HasTarget-served })
+    tied spec names machine slots (λ ready. all_served old.slots.items)
+
+pub ordered-keeps : (old new : Parts) → IsTied old → new.spec ≡ old.spec → new.names ≡ old.names → new.machine ≡ old.machine → new.slots.items ≡ map slot_ordered old.slots.items
+    → new.phase ≡ old.phase → KeepsFrames old new
+ordered-keeps old new tied spec names machine slots phase =
+    change-keeps slot_ordered old new (record { empty = is_empty-ordered; holds_same = holds-ordered; held = held-ordered; target = HasTarget-ordered })
+    tied spec names machine slots (λ ready. All-kept IsServed slot_ordered IsServed-ordered old.slots.items (tied.served (sym phase ∙ ready)))
+
+pub run-keeps : (old new : Parts) → IsTied old → new.spec ≡ old.spec → new.names ≡ old.names → new.machine ≡ old.machine → new.slots.items ≡ map slot_run old.slots.items
+    → new.phase ≡ Waiting → KeepsFrames old new
+run-keeps old new tied spec names machine slots phase =
+    change-keeps slot_run old new (record { empty = is_empty-run; holds_same = holds-run; held = held-run; target = HasTarget-run })
+    tied spec names machine slots (λ ready. absurd (cc))
+
+-- an epoch may follow
+pub is_ready : (phase : Phase) → phase ≢ Waiting → phase ≢ Failed → phase ≡ Ready
+is_ready Waiting waits fails = absurd (waits refl)
+is_ready Ready waits fails = refl
+is_ready Failed waits fails = absurd (fails refl)
+
+guests-served : (slots : List Slot) → map guest_in (map slot_served slots) ≡ map (option_map serviced) (map guest_in slots)
+guests-served slots = map-changed guest_in slot_served (option_map serviced) guest_in-served slots
+
+guests-ordered : (slots : List Slot) → map guest_in (map slot_ordered slots) ≡ map (option_map (λ g. ordered g false)) (map guest_in slots)
+guests-ordered slots = map-changed guest_in slot_ordered (option_map (λ g. ordered g false)) guest_in-ordered slots
 
 guests-run : (slots : List Slot) → map guest_in (map slot_run slots) ≡ map (option_map epoch) (map guest_in slots)
 guests-run slots = map-changed guest_in slot_run (option_map epoch) guest_in-run slots
-
-pub ordered-keeps : (old new : Parts) → IsTied old → new.spec ≡ old.spec → new.names ≡ old.names → new.machine ≡ old.machine → new.slots.items ≡ map slot_ordered old.slots.items → KeepsFrames old new
-ordered-keeps old new = change-keeps slot_ordered old new is_empty-ordered holds-ordered (ap total_held (guests-ordered old.slots.items) ∙ total_held-ordered (map guest_in old.slots.items))
-
-pub run-keeps : (old new : Parts) → IsTied old → new.spec ≡ old.spec → new.names ≡ old.names → new.machine ≡ old.machine → new.slots.items ≡ map slot_run old.slots.items → KeepsFrames old new
-run-keeps old new = change-keeps slot_run old new is_empty-run holds-run (ap total_held (guests-run old.slots.items) ∙ total_held-epoch (map guest_in old.slots.items))
 
 -- what the slots show without regard to the room for an epoch
 of_unprepared : {A : Type 0} (f : Slot → A) → ((s : Slot) → f (unprepared s) ≡ f s) → (new old : List Slot) → map unprepared new ≡ map unprepared old → map f new ≡ map f old
 of_unprepared f kept new old same = sym (map-kept f unprepared kept new) ∙ ap (map f) same ∙ map-kept f unprepared kept old
 
-from_unprepared : (slots : List Slot) → All (λ s. is_empty s ≡ false) (map unprepared slots) → All (λ s. is_empty s ≡ false) slots
-from_unprepared slots all = λ i d there.
-    sym (is_empty-unprepared (get_or slots i d))
-    ∙ ap is_empty (sym (get_or-map unprepared slots i d d there))
-    ∙ (let long = length-map slots unprepared in let within : i < length (map unprepared slots) = omega (arith, long, there) in all i d within)
+from_unprepared : (P : Slot → Type 0) → ((s : Slot) → P (unprepared s) → P s) → (slots : List Slot) → All P (map unprepared slots) → All P slots
+from_unprepared P back slots all = λ i d there.
+    let long = length-map slots unprepared in
+    let within : i < length (map unprepared slots) = omega (arith, long, there) in
+    back (get_or slots i d) (subst P (get_or-map unprepared slots i d d there) (all i d within))
 
-pub unprepared-keeps : (old new : Parts) → IsTied old → new.spec ≡ old.spec → new.names ≡ old.names → new.machine ≡ old.machine → map unprepared new.slots.items ≡ map unprepared old.slots.items → KeepsFrames old new
-unprepared-keeps old new tied spec names machine same = record {
+All-unprepared : (P : Slot → Type 0) → ((s : Slot) → P s → P (unprepared s)) → ((s : Slot) → P (unprepared s) → P s) → (new old : List Slot) → map unprepared new ≡ map unprepared old
+    → All P old → All P new
+All-unprepared P to back new old same all =
+    from_unprepared P back new (subst (All P) (sym same) (All-kept P unprepared to old all))
+
+pub unprepared-keeps : (old new : Parts) → IsTied old → new.spec ≡ old.spec → new.names ≡ old.names → new.machine ≡ old.machine → map unprepared new.slots.items ≡ map unprepared old.slots.items
+    → new.phase ≡ old.phase → KeepsFrames old new
+unprepared-keeps old new tied spec names machine same phase = record {
   spec = spec;
   names = names;
   machine = machine;
   long = sym (length-map new.slots.items unprepared) ∙ ap length same ∙ length-map old.slots.items unprepared;
-  filled = from_unprepared new.slots.items (subst (λ (xs : List Slot). All (λ s. is_empty s ≡ false) xs) (sym same) (none_empty-kept unprepared is_empty-unprepared old.slots.items tied.filled));
+  filled = All-unprepared (λ s. is_empty s ≡ false) (λ s is. is_empty-unprepared s ∙ is) (λ s is. sym (is_empty-unprepared s) ∙ is) new.slots.items old.slots.items same tied.filled;
   owners = λ n. sym (holders-kept unprepared n (holds-unprepared n) new.slots.items) ∙ ap (holders n) same ∙ holders-kept unprepared n (holds-unprepared n) old.slots.items;
   held = ap total_held (of_unprepared guest_in guest_in-unprepared new.slots.items old.slots.items same);
+  targets = All-unprepared HasTarget HasTarget-unprepared HasTarget-prepared new.slots.items old.slots.items same tied.targets;
+  served = λ ready. All-unprepared IsServed IsServed-unprepared IsServed-prepared new.slots.items old.slots.items same (tied.served (sym phase ∙ ready));
 }
 
 -- ---- the world itself
@@ -127,14 +171,22 @@ world-of_fields old new spec names machine configs guests is = λ i. record {
   phase = new.phase;
 }
 
+pub configs-served : (slots : List Slot) → map config_in (map slot_served slots) ≡ map config_in slots
+configs-served slots = map-kept config_in slot_served config_in-served slots
+
 pub configs-ordered : (slots : List Slot) → map config_in (map slot_ordered slots) ≡ map config_in slots
 configs-ordered slots = map-kept config_in slot_ordered config_in-ordered slots
 
 pub configs-run : (slots : List Slot) → map config_in (map slot_run slots) ≡ map config_in slots
 configs-run slots = map-kept config_in slot_run config_in-run slots
 
+pub world-served : (old new : Parts) → new.spec ≡ old.spec → new.names ≡ old.names → new.machine ≡ old.machine → new.slots.items ≡ map slot_served old.slots.items
+    → world_of new ≡ record (world_of old) { guests = map (option_map serviced) (world_of old).guests; state = new.state; phase = new.phase }
+world-served old new spec names machine slots =
+    world-of_fields old new spec names machine (ap (map config_in) slots ∙ configs-served old.slots.items) _ (ap (map guest_in) slots ∙ guests-served old.slots.items)
+
 pub world-ordered : (old new : Parts) → new.spec ≡ old.spec → new.names ≡ old.names → new.machine ≡ old.machine → new.slots.items ≡ map slot_ordered old.slots.items
-    → world_of new ≡ record (world_of old) { guests = map (option_map ordered) (world_of old).guests; state = new.state; phase = new.phase }
+    → world_of new ≡ record (world_of old) { guests = map (option_map (λ g. ordered g false)) (world_of old).guests; state = new.state; phase = new.phase }
 world-ordered old new spec names machine slots =
     world-of_fields old new spec names machine (ap (map config_in) slots ∙ configs-ordered old.slots.items) _ (ap (map guest_in) slots ∙ guests-ordered old.slots.items)
 
@@ -176,8 +228,8 @@ none_holds : (n : ℕ) (configs : List GuestConfig) → holders n (map Stopped c
 none_holds n [] = refl
 none_holds n (config ∷ configs) = none_holds n configs
 
-all_filled : (configs : List GuestConfig) → All (λ s. is_empty s ≡ false) (map Stopped configs)
-all_filled configs = All-map (λ s. is_empty s ≡ false) Stopped configs (λ i d there. refl)
+all_stopped : (P : Slot → Type 0) → ((c : GuestConfig) → P (Stopped c)) → (configs : List GuestConfig) → All P (map Stopped configs)
+all_stopped P each configs = All-map P Stopped configs (λ i d there. each (get_or configs i d))
 
 pub first-tied : (p : Parts) (configs : List GuestConfig) → p.slots.items ≡ map Stopped configs → length p.names ≡ length configs → length configs ≤ 256
     → p.machine ≡ record { total = p.spec.frames; out = sets.empty } → IsTied p
@@ -188,11 +240,13 @@ first-tied p configs slots paired few machine =
     record {
       paired = omega (arith, long, paired);
       few = omega (arith, long, few);
-      filled = subst (λ (xs : List Slot). All (λ s. is_empty s ≡ false) xs) (sym slots) (all_filled configs);
+      filled = subst (All (λ s. is_empty s ≡ false)) (sym slots) (all_stopped (λ s. is_empty s ≡ false) (λ c. refl) configs);
       total = ap (λ (m : MachineView). m.total) machine;
       within = omega (arith, out);
       owners = λ n. ap (holders n) slots ∙ none_holds n configs ∙ ap once_if (sym (ap (λ (m : MachineView). sets.contains m.out n) machine ∙ contains-empty nat_cmp n));
       held = out ∙ sym held;
+      targets = subst (All HasTarget) (sym slots) (all_stopped HasTarget (λ c. tt) configs);
+      served = λ ready. subst (All IsServed) (sym slots) (all_stopped IsServed (λ c. tt) configs);
     }
 
 no_guests : (names : List (List ℕ)) (configs : List GuestConfig) → length names ≡ length configs → map guest_in (map Stopped configs) ≡ map (λ _. None) (domains_of names configs)
@@ -240,7 +294,7 @@ items-unprepared p before after phase is long same =
     ap (map unprepared) (items-with_slots p after phase (sym (length-map after unprepared) ∙ ap length same ∙ length-map before unprepared ∙ long))
     ∙ same ∙ ap (map unprepared) is
 
--- ---- lines leave the state
+-- ---- lines leave the state and the phase
 
 state-started : (w : World) (position : ℕ) (domain : Option Domain) → (with_started w position domain).state ≡ w.state
 state-started w position None = refl
@@ -253,3 +307,15 @@ state-decided w (Err refusal) = refl
 pub state-after_lines : (w : World) (lines : List (List ℕ)) → (after_lines w lines).state ≡ w.state
 state-after_lines w [] = refl
 state-after_lines w (line ∷ lines) = state-after_lines (after_line w line) lines ∙ state-decided w (decision_on w line)
+
+phase-started : (w : World) (position : ℕ) (domain : Option Domain) → (with_started w position domain).phase ≡ w.phase
+phase-started w position None = refl
+phase-started w position (Some domain) = refl
+
+phase-decided : (w : World) (decision : Result ℕ Refusal) → (decided w decision).phase ≡ w.phase
+phase-decided w (Ok position) = phase-started w position (slice_get w.domains position)
+phase-decided w (Err refusal) = refl
+
+pub phase-after_lines : (w : World) (lines : List (List ℕ)) → (after_lines w lines).phase ≡ w.phase
+phase-after_lines w [] = refl
+phase-after_lines w (line ∷ lines) = phase-after_lines (after_line w line) lines ∙ phase-decided w (decision_on w line)

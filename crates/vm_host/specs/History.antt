@@ -1,6 +1,6 @@
 -- What happens to each guest of a host, in order.
 use Rattle.std.specs.Prelude.{ℕ, List, [], ◌∷◌, ◌++◌, Option, Some, None, Result, Ok, Err, slice_set, slice_index_or}
-use Rattle.vm_guest.specs.Happenings.{Happening, Started, epoch_happenings}
+use Rattle.vm_guest.specs.Happenings.{Happening, Started, epoch_happenings, service_happenings}
 use Rattle.vm_guest.specs.Record.{GuestRecord}
 use Rattle.vm_host.specs.declared.boundary.Refusal.{Refusal}
 use Rattle.vm_host.specs.Commands.{decision_on, after_line}
@@ -12,6 +12,17 @@ History = List (List Happening)
 
 abbrev pub happenings_at : History → ℕ → List Happening
 happenings_at h position = slice_index_or h position []
+
+abbrev pub happenings_in_service : Option GuestRecord → List Happening
+happenings_in_service None = []
+happenings_in_service (Some g) = service_happenings g
+
+-- the history once a boundary has served these guests, which comes before its lines
+abbrev pub history_after_service : List (Option GuestRecord) → History → History
+history_after_service [] h = h
+history_after_service (guest ∷ guests) [] = []
+history_after_service (guest ∷ guests) (happenings ∷ h) =
+    (happenings ++ happenings_in_service guest) ∷ history_after_service guests h
 
 -- a guest that starts is told of it
 abbrev pub history_of_decision : History → Result ℕ Refusal → History

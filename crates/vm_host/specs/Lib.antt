@@ -10,3 +10,4 @@ pub mod History
 pub mod Slots
 pub mod Starting
 pub mod Parts
+pub mod Returning

@@ -2,8 +2,9 @@
 use Rattle.std.specs.Prelude.{◌≡◌, ℕ, ◌+◌, ◌-◌, ◌<◌, ◌≤◌, Bool, false, All, map, length, slice_index_or, if◌then◌else◌}
 use Rattle.std.specs.FinSet as set
 use Rattle.vm_host.specs.declared.parts.Parts.{Parts}
+use Rattle.vm_host.specs.declared.phase.Phase.TheVariants.{Ready}
 use Rattle.vm_host.specs.Domains.{domains_of}
-use Rattle.vm_host.specs.Slots.{config_in, guest_in, holders, is_empty}
+use Rattle.vm_host.specs.Slots.{config_in, guest_in, holders, is_empty, HasTarget, IsServed}
 use Rattle.vm_host.specs.declared.slot.Slot.TheVariants.{Empty}
 use Rattle.vm_host.specs.Starting.{IsStopped}
 use Rattle.vm_host.specs.World.{World, total_held}
@@ -21,7 +22,8 @@ world_of p = record {
 abbrev pub once_if : Bool → ℕ
 once_if b = if b then 1 else 0
 
--- a frame is out exactly where one guest holds it, and guests hold no other frames
+-- a frame is out exactly where one guest holds it, and guests hold no other frames; each has its target, and where an epoch may
+-- follow, nothing is posted
 pub record IsTied (p : Parts) : Type 0 where
   pub paired : length p.names ≡ length p.slots.items
   pub few : length p.slots.items ≤ 256
@@ -30,6 +32,8 @@ pub record IsTied (p : Parts) : Type 0 where
   pub within : set.len p.machine.out ≤ p.spec.frames
   pub owners : (number : ℕ) → holders number p.slots.items ≡ once_if (set.contains p.machine.out number)
   pub held : set.len p.machine.out ≡ total_held (map guest_in p.slots.items)
+  pub targets : All HasTarget p.slots.items
+  pub served : p.phase ≡ Ready → All IsServed p.slots.items
 
 -- the domain at a position is stopped, and its minimum is free
 pub record CanStart (p : Parts) (position : ℕ) : Type 0 where

@@ -15,7 +15,7 @@ use crate::boundary::{Answers, Boundary};
 use crate::domains::Domains;
 use crate::lines::Lines;
 use crate::machine::MachineSpec;
-use crate::parts::{Parts, obey_all};
+use crate::parts::{Parts, obey_all, open_boundary};
 use crate::phase::Phase;
 use crate::slot::{Slot, close_all, guest_at, order_all, prepare_all, run_all};
 use crate::state::State;
@@ -80,8 +80,14 @@ impl Host {
         })
     }
 
-    /// What comes before an epoch: the lines are obeyed in order, and each running guest gets its orders, which end the reads of
-    /// the last epoch. It tells what became of each line, and the free frames after all of them.
+    /// What comes before an epoch, in this order:
+    ///
+    /// - The balloon device of each running guest is served (OASIS VIRTIO 1.2, section 5.5.6).
+    /// - Each running guest gives back the spares above its target.
+    /// - The lines are obeyed in order.
+    /// - Each running guest gets its orders, which end the reads of the last epoch. Nobody is blocked.
+    ///
+    /// It tells what became of each line, and the free frames after all of them.
     ///
     /// `start NAME` runs the domain from its configuration (`virsh start`). Refusals come in the order `BadLine`, `NoSuchDomain`,
     /// `AlreadyRunning`, `NoMemory`, and change nothing.
@@ -99,13 +105,13 @@ impl Host {
         if self.parts.phase == Phase::Failed {
             return Err(HostError::Failed);
         }
+        open_boundary(&mut self.parts);
         let Ok(answers) = obey_all(alloc, &mut self.parts, lines.as_slice()) else {
             self.parts.phase = Phase::Failed;
             return Err(HostError::Memory);
         };
         let free = self.parts.machine.free();
         order_all(&mut self.parts.slots);
-        self.parts.phase = Phase::Ready;
         Ok(Boundary {
             answers: Answers::new(answers),
             state: self.parts.state,

@@ -1,8 +1,12 @@
 //! A host: its machine, its domains, and the guests that run on it.
 //!
 //! A [`Host`] is made of a [`MachineSpec`] and of the [`Domains`] that it may run, as libvirt's `virsh` calls them. Time goes in
-//! epochs. [`Host::boundary`] obeys command [`Lines`] in order and gives each running guest its orders; [`Host::epoch`] then
-//! lets each running guest run, in the order of the domains. A boundary may follow another one, and an epoch needs one.
+//! epochs. [`Host::boundary`] serves the balloon device of each running guest (OASIS VIRTIO 1.2, section 5.5.6), takes back the
+//! spare frames above its target, obeys command [`Lines`] in order, and gives each running guest its orders; [`Host::epoch`]
+//! then lets each running guest run, in the order of the domains. A boundary may follow another one, and an epoch needs one.
+//!
+//! A guest starts with its minimum of frames, which may be below its size. It keeps just these: no frame is granted beyond a
+//! minimum, none is reclaimed, and no guest is blocked. The swap area that it may need is not counted by the host.
 //!
 //! The one command is `start NAME` (`virsh start`). It is admitted exactly where the guest's minimum is free (Waldspurger,
 //! "Memory Resource Management in VMware ESX Server", OSDI 2002, section 6.2). A refused command changes nothing.

@@ -1,6 +1,7 @@
-// A host's parts, and what a command line does to them.
+// A host's parts, and what a boundary does to them.
 ghost use Rattle.std.specs.Prelude.{◌≡◌, ◌<◌, IfOk, OnOk, OnErr, Some, map, string_bytes, length};
 ghost use Rattle.std.specs.Option.{option_map};
+ghost use Rattle.vm_host.specs.Boundary.{opened, with_spares_back};
 ghost use Rattle.vm_host.specs.Commands.{word_after_start, decision_on, start_at, outcome_of, after_line, after_lines, answers_to};
 ghost use Rattle.vm_host.specs.Parts.{world_of, CanStart, IsTied};
 
@@ -8,7 +9,7 @@ use crate::boundary::{Answer, Outcome, Refusal};
 use crate::machine::MachineSpec;
 use crate::names::Names;
 use crate::phase::Phase;
-use crate::slot::{Slot, start};
+use crate::slot::{Slot, serve_all, spares_back, start};
 use crate::state::State;
 use std::alloc::{AllocError, Global};
 use vm_frames::Machine;
@@ -20,6 +21,29 @@ pub(crate) struct Parts {
     pub(crate) slots: Vec<Slot>,
     pub(crate) state: State,
     pub(crate) phase: Phase,
+}
+
+// Each guest gives back the spares above its target.
+fn spares_back_all(parts: &mut Parts)
+    requires { IsTied parts.old }
+    ensures world { world_of parts.new ≡ with_spares_back (world_of parts.old) }
+    ensures tied { IsTied parts.new }
+{
+    for position in 0..parts.slots.len() {
+        spares_back(&mut parts.slots[position], &mut parts.machine);
+    }
+}
+
+// What comes before the lines of a boundary: each device is served, so that an epoch may follow, and the spares above the
+// targets come back.
+pub(crate) fn open_boundary(parts: &mut Parts)
+    requires { IsTied parts.old }
+    ensures world { world_of parts.new ≡ opened (world_of parts.old) }
+    ensures tied { IsTied parts.new }
+{
+    serve_all(&mut parts.slots);
+    parts.phase = Phase::Ready;
+    spares_back_all(parts);
 }
 
 // The word behind `start `.

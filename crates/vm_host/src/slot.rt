@@ -1,10 +1,11 @@
 // The domains of a host: in each slot a stopped guest's specification, or a guest.
-ghost use Rattle.std.specs.Prelude.{◌≡◌, ◌+◌, ◌≤◌, ℕ, EachIndex, map, OnOk, OnErr, true, slice_get, slice_index_or};
+ghost use Rattle.std.specs.Prelude.{◌≡◌, ◌+◌, ◌≤◌, ℕ, All, EachIndex, map, OnOk, OnErr, true, slice_get, slice_index_or};
 ghost use Rattle.std.specs.FinSet as set;
 ghost use Rattle.std.specs.Option.{option_map};
 ghost use Rattle.vm_host.specs.declared.slot.Slot.TheVariants.{Empty};
 ghost use Rattle.vm_host.specs.Parts.{once_if};
-ghost use Rattle.vm_host.specs.Slots.{config_in, guest_in, holders, holds, is_empty, is_prepared, slot_ordered, slot_run, unprepared};
+ghost use Rattle.vm_host.specs.Returning.{GivesSpares};
+ghost use Rattle.vm_host.specs.Slots.{config_in, guest_in, holders, holds, is_empty, is_prepared, slot_ordered, slot_run, slot_served, unprepared, HasTarget, IsServed};
 ghost use Rattle.vm_host.specs.Starting.{IsStopped, StartsIn};
 ghost use Rattle.vm_host.specs.World.{held_by, running, total_held};
 
@@ -74,12 +75,41 @@ pub(crate) fn start(alloc: Global, slot: &mut Slot, machine: &mut Machine) -> Re
     }
 }
 
-// The guest of a slot gets its orders for the next epoch.
+// Serves the device of a slot's guest.
+fn serve(slot: &mut Slot)
+    ensures { slot.new ≡ slot_served slot.old }
+{
+    if let Slot::Running(guest) = slot {
+        guest.serve();
+    }
+}
+
+// Serves the device of each guest.
+pub(crate) fn serve_all(slots: &mut [Slot])
+    ensures { slots.new ≡ map slot_served slots.old }
+{
+    for slot in slots.iter_mut() {
+        serve(slot);
+    }
+}
+
+// The guest of a slot gives back the spares above its target.
+pub(crate) fn spares_back(slot: &mut Slot, machine: &mut Machine)
+    requires target { HasTarget slot.old }
+    requires out { (number : ℕ) → holds number slot.old ≡ true → set.contains machine.old.out number ≡ true }
+    ensures { GivesSpares slot.old slot.new machine.old machine.new }
+{
+    if let Slot::Running(guest) = slot {
+        let _ = guest.spares_back(machine);
+    }
+}
+
+// The guest of a slot gets its orders for the next epoch, in which it may run.
 fn order(slot: &mut Slot)
     ensures { slot.new ≡ slot_ordered slot.old }
 {
     if let Slot::Running(guest) = slot {
-        guest.order();
+        guest.order(false);
     }
 }
 
@@ -116,7 +146,8 @@ pub(crate) fn prepare_all(slots: &mut [Slot]) -> Result<(), AllocError>
 
 // The guest of a slot runs its epoch.
 fn run(slot: &mut Slot)
-    requires { is_prepared slot.old ≡ true }
+    requires prepared { is_prepared slot.old ≡ true }
+    requires served { IsServed slot.old }
     ensures { slot.new ≡ slot_run slot.old }
 {
     if let Slot::Running(guest) = slot {
@@ -126,7 +157,8 @@ fn run(slot: &mut Slot)
 
 // Each guest runs its epoch, in order.
 pub(crate) fn run_all(slots: &mut [Slot])
-    requires { EachIndex slots.old (λ i. is_prepared (slice_index_or slots.old i Empty) ≡ true) }
+    requires prepared { EachIndex slots.old (λ i. is_prepared (slice_index_or slots.old i Empty) ≡ true) }
+    requires served { All IsServed slots.old }
     ensures { slots.new ≡ map slot_run slots.old }
 {
     for slot in slots.iter_mut() {

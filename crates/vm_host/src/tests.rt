@@ -1,41 +1,27 @@
 // Hosts from their start to their end, by worked examples.
-ghost use Rattle.std.specs.Prelude.{◌≡◌, ◌+◌, ◌≤◌, All, OnOk, IsTrue, length};
-ghost use Rattle.vm_guest.specs.Config.{IsRunnable};
-ghost use Rattle.vm_trace.specs.Limits.{IsStep};
+ghost use Rattle.std.specs.Prelude.{◌≡◌, ◌+◌, ◌≤◌, All, OnOk, length};
+ghost use Rattle.vm_trace.specs.Limits.{IsStep, IsWithin};
 
 use crate::{
     Boundary, Domains, GuestSpec, Host, Lines, MachineSpec, Outcome, PageRead, Refusal, State,
 };
 use std::process::Abort;
 use std::test::Fail;
-use vm_trace::{Action, Bytes, Step, Trace, parse_step};
+use vm_trace::{Bytes, Trace, parse_step_within};
 
-// Whether a guest of this size can run the step.
-fn is_runnable(step: &Step, size: u32) -> bool
-    ensures runnable { IsTrue result → IsRunnable size step.now }
-    ensures bounded { IsStep step.now }
-{
-    match step.action() {
-        Action::Read { page, .. } => page < size,
-        Action::Write { page, .. } => page < size,
-        Action::Free { page } => page < size,
-        Action::Idle => true,
-        Action::Post { .. } => false,
-    }
-}
-
-// Adds a step to a trace that has few.
+// Adds a step of a guest of this size to a trace that has few.
 fn add_step(trace: &mut Trace, size: u32, text: &str) -> Result<(), Fail>
-    requires runnable { All (IsRunnable size) trace.old }
+    requires some_pages { 1 ≤ size }
+    requires few_pages { size ≤ 262144 }
+    requires within { All (IsWithin size) trace.old }
     requires bounded { All IsStep trace.old }
-    ensures runnable { OnOk result (All (IsRunnable size) trace.new) }
+    ensures within { OnOk result (All (IsWithin size) trace.new) }
     ensures bounded { OnOk result (All IsStep trace.new) }
     ensures length { OnOk result (length trace.new ≡ length trace.old + 1) }
 {
-    let step = parse_step(text)?;
-    if !is_runnable(&step, size) {
-        return Err(Fail::from("no step of this guest"));
-    }
+    let step = parse_step_within(text, size)?;
+    // To look at a step's action shows its limits.
+    let _ = step.action();
     trace.push(step)?;
     Ok(())
 }
@@ -46,7 +32,7 @@ fn guest_of(size: u32, quantum: u32, trace: Trace) -> GuestSpec
     requires few_pages { size ≤ 262144 }
     requires some_quantum { 1 ≤ quantum }
     requires short_quantum { quantum ≤ 65536 }
-    requires runnable { All (IsRunnable size) trace }
+    requires within { All (IsWithin size) trace }
     requires bounded { All IsStep trace }
     requires few { length trace ≤ 1000000 }
 {
@@ -54,7 +40,13 @@ fn guest_of(size: u32, quantum: u32, trace: Trace) -> GuestSpec
         size,
         min: size,
         shares: 1000,
+        samples: 100,
+        period: 1000,
+        rate: 16,
         quantum,
+        seed: 0,
+        stream: 0,
+        tell: true,
         trace,
     }
 }
@@ -241,6 +233,41 @@ fn two_in_order(rt: HostRuntime) -> Result<(), Fail> {
     assert_eq!(rt; first_byte(&host, "a", 0), Some(0x0a));
     assert_eq!(rt; first_byte(&host, "b", 1), None);
     assert_eq!(rt; first_byte(&host, "c", 0), None);
+    host.close();
+    Ok(())
+}
+
+// A page of a raw inflate goes to the balloon at the next boundary. The guest may read it only then, as zeros.
+#[test]
+fn a_raw_inflate_is_served(rt: HostRuntime) -> Result<(), Fail> {
+    let alloc = rt.alloc();
+    let mut trace = Trace::new(alloc);
+    add_step(&mut trace, 4, "w 0 0 ff")?;
+    add_step(&mut trace, 4, "p i 00000000")?;
+    add_step(&mut trace, 4, "r 0 0 1")?;
+    let mut domains = Domains::new(alloc);
+    add_domain(&mut domains, "g", guest_of(4, 100, trace))?;
+    let mut lines = Lines::new(alloc);
+    lines.push("start g")?;
+    let read = PageRead {
+        page: 0,
+        offset: 0,
+        bytes: Bytes::from_slice(&[0]),
+    };
+
+    let mut host = host_of(&rt, domains);
+    let _ = serve(&rt, &mut host, &lines);
+    let view = host.view(0).expect(&rt, "g runs");
+    assert_eq!(rt; (view.stalled, view.done), (Some(0), 2));
+    assert_eq!(rt; read_count(&host, 0), Some(0));
+    let boundary = serve(&rt, &mut host, &Lines::new(alloc));
+    assert_eq!(rt; boundary.free, 96);
+    assert_eq!(rt; host.reads(0), Some([read].as_slice()));
+    let view = host.view(0).expect(&rt, "g runs");
+    assert_eq!(rt;
+        (view.target, view.held, view.balloon, view.done),
+        (4, 4, 0, 3)
+    );
     host.close();
     Ok(())
 }

@@ -35,7 +35,7 @@ none_in_frame (suc size) n = none_in_frame size n
 pub AreApart-absent_pages : (size : ℕ) → AreApart (absent_pages size)
 AreApart-absent_pages size = record { each = λ n. omega (arith, none_in_frame size n) }
 
-is_in_frame-not_in : (page : Page) (n : ℕ) → IsNotIn page → is_in_frame n page ≡ false
+pub is_in_frame-not_in : (page : Page) (n : ℕ) → IsNotIn page → is_in_frame n page ≡ false
 is_in_frame-not_in Absent n out = refl
 is_in_frame-not_in (In frame) n out = let no : true ≡ false = out in absurd (cc)
 is_in_frame-not_in Out n out = refl

@@ -58,6 +58,10 @@ unfoldable pub read_line : List ℕ → PageRead → List ℕ
 read_line name r =
     name ++ (codes " r " ++ (decimal r.page ++ (codes " " ++ (decimal r.offset ++ (codes " " ++ (hex r.bytes ++ codes "\n"))))))
 
+-- the guest, and the page on which it stalled
+unfoldable pub stall_line : List ℕ → ℕ → List ℕ
+stall_line name page = name ++ (codes " stall " ++ (decimal page ++ codes "\n"))
+
 -- ---- a guest at the end
 
 unfoldable pub guest_line : List ℕ → GuestView → List ℕ

@@ -1,5 +1,5 @@
 -- The configuration that a text is, or the first fault of the text.
-use Rattle.std.specs.Prelude.{ℕ, ◌+◌, ◌*◌, ◌/◌, List, [], ◌∷◌, ◌++◌, length, if◌then◌else◌, nat_le, nat_lt, is_some, Option, Some, None, Result, Ok, Err, codes}
+use Rattle.std.specs.Prelude.{ℕ, ◌+◌, ◌*◌, ◌/◌, List, [], ◌∷◌, ◌++◌, length, true, if◌then◌else◌, nat_le, is_some, Option, Some, None, Result, Ok, Err, codes}
 use Rattle.std.specs.Str.{is_utf8}
 use Rattle.serde_json.specs.Data.{Data}
 use Rattle.serde_json.specs.Find.{get}
@@ -37,17 +37,36 @@ fresh_name earlier name =
 abbrev pub name_in : List Domain → Option Data → Result (List ℕ) ConfigError
 name_in earlier found = text_in found >>= fresh_name earlier
 
--- A guest after these ones, key by key. Its minimum is all of its pages, since nothing takes frames from it yet.
+-- A guest after these ones, key by key. Its minimum is all of its pages, since the host grants it no more than its minimum yet. It
+-- tells the device before it uses a ballooned page.
 unfoldable pub domain_in : ℕ → Data → List Domain → Result Domain ConfigError
 domain_in quantum d earlier = do
   name ← name_in earlier (get (codes "name") d)
   size ← required_number (get (codes "size") d) 1 65536
   min ← required_number (get (codes "min") d) size size
+  shares ← number_or (get (codes "shares") d) 1 1000000 1000
+  samples ← number_or (get (codes "samples") d) 1 1000 100
+  period ← number_or (get (codes "period") d) 1 1000000 1000
+  rate ← number_or (get (codes "rate") d) 1 256 16
+  seed ← number_or (get (codes "seed") d) 0 18446744073709551615 0
+  stream ← number_or (get (codes "stream") d) 0 18446744073709551615 0
   texts ← texts_or_none 1000000 (get (codes "trace") d)
   trace ← steps_from (length earlier) size texts []
   Ok (record {
     name = name;
-    config = record { size = size; min = min; shares = 1000; quantum = quantum; trace = trace };
+    config = record {
+      size = size;
+      min = min;
+      shares = shares;
+      samples = samples;
+      period = period;
+      rate = rate;
+      quantum = quantum;
+      seed = seed;
+      stream = stream;
+      tell = true;
+      trace = trace;
+    };
   })
 
 -- the guests, one by one, after these ones
@@ -58,13 +77,6 @@ domains_from quantum (d ∷ ds) earlier = do
   domains_from quantum ds (earlier ++ domain ∷ [])
 
 -- ---- the whole
-
--- the guests run fewer than 1000 steps each
-abbrev pub few_steps : ℕ → ℕ → Result ℕ ConfigError
-few_steps quantum epochs = if nat_lt (epochs * quantum) 1000 then Ok epochs else Err Range
-
-abbrev pub epochs_in : ℕ → Option Data → Result ℕ ConfigError
-epochs_in quantum found = required_number found 0 10000 >>= few_steps quantum
 
 -- the frames that the guests need together
 abbrev pub total_min : List Domain → ℕ
@@ -85,7 +97,7 @@ config_in d = do
   version ← required_number (get (codes "version") d) 1 1
   frames ← required_number (get (codes "frames") d) 1 65536
   quantum ← number_or (get (codes "quantum") d) 1 65536 100
-  epochs ← epochs_in quantum (get (codes "epochs") d)
+  epochs ← required_number (get (codes "epochs") d) 0 10000
   guests ← objects_in 64 (get (codes "guests") d)
   commands ← objects_or_none 0 (get (codes "commands") d)
   domains ← domains_in frames quantum guests

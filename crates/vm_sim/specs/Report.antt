@@ -11,7 +11,7 @@ use Rattle.vm_host.specs.Epoch.{after_epoch}
 use Rattle.vm_host.specs.Readers.{overhead_frames}
 use Rattle.vm_host.specs.World.{World, guest_at, total_held}
 use Rattle.vm_sim.specs.declared.config.Config.{Config}
-use Rattle.vm_sim.specs.Lines.{answer_lines, state_line, read_line, guest_line}
+use Rattle.vm_sim.specs.Lines.{answer_lines, state_line, read_line, stall_line, guest_line}
 use Rattle.vm_sim.specs.Course.{lines_at, first_world_of, world_from}
 
 -- the positions of the domains
@@ -36,9 +36,25 @@ read_lines name (Some g) = flat_map (read_line name) g.reads
 abbrev pub reads_at : World → ℕ → List ℕ
 reads_at w position = read_lines (name_at w position) (guest_at w position)
 
--- what was read in an epoch: for each running guest its reads, in order
+-- the page on which a guest stalled in the epoch, if it runs and did
+abbrev pub stall_in : Option GuestRecord → Option ℕ
+stall_in None = None
+stall_in (Some g) = g.progress.stalled_on
+
+abbrev pub stall_lines : List ℕ → Option ℕ → List ℕ
+stall_lines name None = []
+stall_lines name (Some page) = stall_line name page
+
+abbrev pub stall_at : World → ℕ → List ℕ
+stall_at w position = stall_lines (name_at w position) (stall_in (guest_at w position))
+
+-- what a guest did in the epoch: its reads, in order, and then the page on which it stalled
+abbrev pub shown_at : World → ℕ → List ℕ
+shown_at w position = reads_at w position ++ stall_at w position
+
+-- what the running guests did in an epoch, in order
 unfoldable pub epoch_text : World → List ℕ
-epoch_text w = flat_map (reads_at w) (positions w)
+epoch_text w = flat_map (shown_at w) (positions w)
 
 -- ---- the end
 
@@ -60,11 +76,15 @@ end_text w = codes "end\n" ++ (flat_map (lines_at_end w) (positions w) ++ machin
 
 -- ---- a whole run
 
--- what is told of epoch k: of its boundary and of its reads
-unfoldable pub told_in_epoch : ℕ → World → List ℕ
-told_in_epoch k w =
+-- what is told of the boundary before epoch k
+unfoldable pub boundary_told : ℕ → World → List ℕ
+boundary_told k w =
     let lines = lines_at w.domains k in
-    boundary_text k (bounded w lines) (boundary_of w lines) ++ epoch_text (after_epoch (bounded w lines))
+    boundary_text k (bounded w lines) (boundary_of w lines)
+
+-- what is told of epoch k: of its boundary, and of what its guests did
+unfoldable pub told_in_epoch : ℕ → World → List ℕ
+told_in_epoch k w = boundary_told k w ++ epoch_text (after_epoch (bounded w (lines_at w.domains k)))
 
 -- what is told of so many epochs from a first host on
 abbrev pub told_in_epochs : World → ℕ → List ℕ

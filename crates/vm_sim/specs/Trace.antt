@@ -1,7 +1,7 @@
--- The steps that a guest can run.
+-- The steps of a guest.
 use Rattle.std.specs.Prelude.{ℕ, List, nat_lt, if◌then◌else◌, Result, Ok, Err}
 use Rattle.vm_trace.specs.declared.error.TraceError.{TraceError}
-use Rattle.vm_trace.specs.declared.error.TraceError.TheVariants.{Unknown, Range}
+use Rattle.vm_trace.specs.declared.error.TraceError.TheVariants.{Range}
 use Rattle.vm_trace.specs.declared.step.Step.{Step}
 use Rattle.vm_trace.specs.declared.step.Action.TheVariants.{Read, Write, Free, Idle, Post}
 use Rattle.vm_trace.specs.Meaning.{step_within}
@@ -11,14 +11,14 @@ use Rattle.vm_trace.specs.Words.{◌>>=◌}
 abbrev pub on_page : ℕ → ℕ → Step → Result Step TraceError
 on_page size page step = if nat_lt page size then Ok step else Err Range
 
--- a guest has no balloon device yet, so that a step that posts a buffer is unknown
-abbrev pub runnable : ℕ → Step → Result Step TraceError
-runnable size (Read page offset len) = on_page size page (Read page offset len)
-runnable size (Write page offset bytes) = on_page size page (Write page offset bytes)
-runnable size (Free page) = on_page size page (Free page)
-runnable size Idle = Ok Idle
-runnable size (Post queue bytes) = Err Unknown
+-- a step has its page, if there is one, below the size
+abbrev pub within_pages : ℕ → Step → Result Step TraceError
+within_pages size (Read page offset len) = on_page size page (Read page offset len)
+within_pages size (Write page offset bytes) = on_page size page (Write page offset bytes)
+within_pages size (Free page) = on_page size page (Free page)
+within_pages size Idle = Ok Idle
+within_pages size (Post queue bytes) = Ok (Post queue bytes)
 
 -- the step that a text is, for a guest with this many pages: a fault of the text comes before one of the page
 abbrev pub step_in : ℕ → List ℕ → Result Step TraceError
-step_in size text = step_within 65536 text >>= runnable size
+step_in size text = step_within 65536 text >>= within_pages size

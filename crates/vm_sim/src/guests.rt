@@ -10,7 +10,7 @@ ghost use Rattle.vm_sim.specs.Named.{domain_seen};
 ghost use Rattle.vm_sim.specs.Reading.{name_in, domain_in, domains_in};
 
 use crate::error::ConfigError;
-use crate::keys::{number, text, texts_or_none};
+use crate::keys::{number, number_or_default, text, texts_or_none};
 use crate::names::is_name;
 use crate::trace::trace;
 use serde_json::Value;
@@ -22,8 +22,21 @@ const MAX_SIZE: u64 = 65536;
 
 const MAX_TRACE: usize = 1_000_000;
 
-// The shares of a guest.
-const SHARES: u32 = 1000;
+const MAX_SHARES: u64 = 1_000_000;
+
+const DEFAULT_SHARES: u64 = 1000;
+
+const MAX_SAMPLES: u64 = 1000;
+
+const DEFAULT_SAMPLES: u64 = 100;
+
+const MAX_PERIOD: u64 = 1_000_000;
+
+const DEFAULT_PERIOD: u64 = 1000;
+
+const MAX_RATE: u64 = 256;
+
+const DEFAULT_RATE: u64 = 16;
 
 // A guest by its name, as it is set up.
 #[derive(Drop)]
@@ -65,13 +78,25 @@ fn domain<'v>(
     let name = fresh_name(object, earlier)?;
     let size = number(object, "size", 1, MAX_SIZE)?;
     let min = number(object, "min", size, size)?;
+    let shares = number_or_default(object, "shares", 1, MAX_SHARES, DEFAULT_SHARES)?;
+    let samples = number_or_default(object, "samples", 1, MAX_SAMPLES, DEFAULT_SAMPLES)?;
+    let period = number_or_default(object, "period", 1, MAX_PERIOD, DEFAULT_PERIOD)?;
+    let rate = number_or_default(object, "rate", 1, MAX_RATE, DEFAULT_RATE)?;
+    let seed = number_or_default(object, "seed", 0, u64::MAX, 0)?;
+    let stream = number_or_default(object, "stream", 0, u64::MAX, 0)?;
     let texts = texts_or_none(alloc, object, "trace", MAX_TRACE)?;
     let trace = trace(alloc, earlier.len(), size as u32, &texts)?;
     let spec = GuestSpec {
         size: size as u32,
         min: min as u32,
-        shares: SHARES,
+        shares: shares as u32,
+        samples: samples as u32,
+        period: period as u32,
+        rate: rate as u32,
         quantum,
+        seed,
+        stream,
+        tell: true,
         trace,
     };
     Ok(Named { name, spec })

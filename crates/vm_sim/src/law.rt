@@ -11,7 +11,7 @@ use vm_guest::law_last_write;
 
 /// Each read of a run gives the bytes that were last written: after each epoch of a configuration, the reads that the host
 /// shows of each guest, which the report tells line by line, are those of the last writes over what happened to the guest
-/// before. A start and a free of a page write zeros.
+/// before. A start, a free of a page and an accepted inflate of it write zeros.
 pub fn law_reads()
     ensures { (c : Config) (k position : ℕ) → AreWithinLimits c.domains
         → reads_shown (world_after c (k + 1)) position

@@ -1,7 +1,7 @@
 // The lines of a report.
 ghost use Rattle.std.specs.Prelude.{◌≡◌, ◌++◌, ◌<◌, OnOk, string_bytes};
 ghost use Rattle.std.specs.List.{flat_map};
-ghost use Rattle.vm_sim.specs.Lines.{refusal_words, outcome_line, answer_lines, state_word, state_line, hex_digit, hex_byte, hex, read_line, guest_line};
+ghost use Rattle.vm_sim.specs.Lines.{refusal_words, outcome_line, answer_lines, state_word, state_line, hex_digit, hex_byte, hex, read_line, stall_line, guest_line};
 
 use std::alloc::AllocError;
 use vm_guest::{GuestView, PageRead};
@@ -135,6 +135,14 @@ pub(crate) fn push_reads(
         push_read(text, name, read)?;
     }
     Ok(())
+}
+
+// A stall: the guest, and the page on which it stalled.
+#[tactic(auto, unfolding(crate::specs::Lines::stall_line))]
+pub(crate) fn push_stall(text: &mut String, name: &str, page: u32) -> Result<(), AllocError>
+    ensures { OnOk result (string_bytes text.new ≡ string_bytes text.old ++ stall_line name.now page) }
+{
+    writeln!(text, "{name} stall {page}")
 }
 
 // ---- the end

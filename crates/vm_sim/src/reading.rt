@@ -4,7 +4,7 @@ ghost use Rattle.vm_sim.specs.Limits.{AreWithinLimits};
 ghost use Rattle.serde_json.specs.Find.{get};
 ghost use Rattle.serde_json.specs.View.{view};
 ghost use Rattle.vm_sim.specs.Outcomes.{IsOrMemory};
-ghost use Rattle.vm_sim.specs.Reading.{epochs_in, config_in, data_in, config_of};
+ghost use Rattle.vm_sim.specs.Reading.{config_in, data_in, config_of};
 ghost use Rattle.vm_sim.specs.Seen.{data_of};
 
 use crate::config::Config;
@@ -28,22 +28,6 @@ const MAX_GUESTS: usize = 64;
 // No command is known yet.
 const MAX_COMMANDS: usize = 0;
 
-// A guest runs fewer steps than these.
-const STEPS: u64 = 1000;
-
-// The number of epochs.
-fn epochs(object: &Value, quantum: u64) -> Result<u64, ConfigError>
-    requires { quantum ≤ 65536 }
-    ensures value { result ≡ epochs_in quantum (get (codes "epochs") (view object.now)) }
-    ensures within { IfOk result (λ n. n ≤ 10000) }
-{
-    let epochs = number(object, "epochs", 0, MAX_EPOCHS)?;
-    if epochs * quantum >= STEPS {
-        return Err(ConfigError::Range);
-    }
-    Ok(epochs)
-}
-
 // The keys of the root, and then those of each guest.
 #[tactic(auto, unfolding(crate::specs::Reading::config_in))]
 fn config(alloc: Global, object: &Value) -> Result<Config, ConfigError>
@@ -53,7 +37,7 @@ fn config(alloc: Global, object: &Value) -> Result<Config, ConfigError>
     number(object, "version", 1, 1)?;
     let frames = number(object, "frames", 1, MAX_FRAMES)?;
     let quantum = number_or_default(object, "quantum", 1, MAX_QUANTUM, DEFAULT_QUANTUM)?;
-    let epochs = epochs(object, quantum)?;
+    let epochs = number(object, "epochs", 0, MAX_EPOCHS)?;
     let guests = objects(object, "guests", MAX_GUESTS)?;
     objects_or_none(object, "commands", MAX_COMMANDS)?;
     let domains = domains(alloc, frames as u32, quantum as u32, guests)?;
@@ -89,7 +73,7 @@ fn parse(alloc: Global, bytes: &[u8]) -> Result<Value, ConfigError>
 /// | `version` | number | 1 | required |
 /// | `frames` | number, frames of 4096 bytes | 1 to 65536 | required |
 /// | `quantum` | number, steps an epoch | 1 to 65536 | 100 |
-/// | `epochs` | number | 0 to 10000, fewer than 1000 steps in all | required |
+/// | `epochs` | number | 0 to 10000 | required |
 /// | `guests` | array of objects | 0 to 64 | required |
 /// | `commands` | array of objects | 0 | none |
 ///
@@ -98,13 +82,19 @@ fn parse(alloc: Global, bytes: &[u8]) -> Result<Value, ConfigError>
 /// | `name` | text | 1 to 32 letters, digits, `_`, `.`, `-`, the first no `-` | required |
 /// | `size` | number, pages of 4096 bytes | 1 to 65536 | required |
 /// | `min` | number, pages | `size` | required |
+/// | `shares` | number | 1 to 1000000 | 1000 |
+/// | `samples` | number, pages drawn for a period | 1 to 1000 | 100 |
+/// | `period` | number, executed steps | 1 to 1000000 | 1000 |
+/// | `rate` | number, pages an epoch of the driver | 1 to 256 | 16 |
+/// | `seed` | number | 0 to 2^64 - 1 | 0 |
+/// | `stream` | number | 0 to 2^64 - 1 | 0 |
 /// | `trace` | array of texts, each a step | 0 to 1000000 | none |
 ///
 /// The answer is the configuration that the text is, or its first fault: the keys are looked at in the order of the tables,
 /// those of the root before those of the guests, and each guest after the one before it. Of one key, that it is absent
 /// comes first, then its kind, then its range; a name is looked at before it is compared with those of earlier guests; of a
-/// trace, the steps come last. A step posts no buffer ([`TraceError::Unknown`](vm_trace::TraceError::Unknown)), and its page
-/// is below `size` ([`TraceError::Range`](vm_trace::TraceError::Range)). Last, at least 4 percent of the frames, rounded
+/// trace, the steps come last, whose page, if they have one, is below `size`
+/// ([`TraceError::Range`](vm_trace::TraceError::Range)). Last, at least 4 percent of the frames, rounded
 /// down, have to be left when all guests run ([`ConfigError::Range`]). [`ConfigError::Memory`] may come in place of any
 /// answer. Each guest of a configuration keeps the limits of [`GuestSpec`](vm_guest::GuestSpec).
 pub fn read_config(alloc: Global, bytes: &[u8]) -> Result<Config, ConfigError>

@@ -1,8 +1,9 @@
 // The report, piece by piece.
 ghost use Rattle.std.specs.Prelude.{◌≡◌, ◌++◌, IfOk, OnOk, string_bytes};
-ghost use Rattle.vm_sim.specs.Report.{boundary_text, reads_at, epoch_text, lines_at_end, machine_line, end_text};
+ghost use Rattle.vm_host.specs.World.{guest_at};
+ghost use Rattle.vm_sim.specs.Report.{boundary_text, reads_at, stall_in, stall_at, shown_at, epoch_text, lines_at_end, machine_line, end_text};
 
-use crate::lines::{push_answers, push_guest, push_reads, push_state};
+use crate::lines::{push_answers, push_guest, push_reads, push_stall, push_state};
 use std::alloc::{AllocError, Global};
 use vm_host::{Boundary, Host};
 
@@ -40,15 +41,43 @@ fn push_reads_at(text: &mut String, host: &Host, position: usize) -> Result<(), 
     }
 }
 
-/// What was read in the epoch that the host has run last: for each running guest, in the order of the configuration, a line
-/// `NAME r PAGE OFFSET BYTES` for each read in its order, with two hexadecimal digits in lower case for each byte.
+// The page on which the guest at a position stalled in the last epoch, if one runs there and did.
+fn stall_in(host: &Host, position: usize) -> Option<u32>
+    ensures { result ≡ stall_in (guest_at host.now position) }
+{
+    let view = host.view(position)?;
+    view.stalled
+}
+
+// The stall of the guest at a position, if there was one.
+fn push_stall_at(text: &mut String, host: &Host, position: usize) -> Result<(), AllocError>
+    ensures { OnOk result (string_bytes text.new ≡ string_bytes text.old ++ stall_at host.now position) }
+{
+    let name = host.name(position).unwrap_or("");
+    match stall_in(host, position) {
+        Some(page) => push_stall(text, name, page),
+        None => Ok(()),
+    }
+}
+
+// What the guest at a position did, if one runs there.
+fn push_shown_at(text: &mut String, host: &Host, position: usize) -> Result<(), AllocError>
+    ensures { OnOk result (string_bytes text.new ≡ string_bytes text.old ++ shown_at host.now position) }
+{
+    push_reads_at(text, host, position)?;
+    push_stall_at(text, host, position)
+}
+
+/// What the guests did in the epoch that the host has run last: for each running guest, in the order of the configuration, a line
+/// `NAME r PAGE OFFSET BYTES` for each read in its order, with two hexadecimal digits in lower case for each byte, and then, if
+/// it stalled in this epoch, a line `NAME stall PAGE`.
 #[tactic(auto, unfolding(crate::specs::Report::epoch_text))]
 pub fn epoch_text(alloc: Global, host: &Host) -> Result<String, AllocError>
     ensures { IfOk result (λ text. string_bytes text ≡ epoch_text host.now) }
 {
     let mut text = String::new(alloc);
     for position in 0..host.len() {
-        push_reads_at(&mut text, host, position)?;
+        push_shown_at(&mut text, host, position)?;
     }
     Ok(text)
 }

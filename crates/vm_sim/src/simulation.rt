@@ -1,9 +1,12 @@
 // From bytes to a report.
-ghost use Rattle.std.specs.Prelude.{◌≡◌, ◌↔◌, ◌≤◌, ◌++◌, ◌∷◌, [], ℕ, List, length, map, codes, IfOk, IfErr, OnOk, OnErr, Err};
+ghost use Rattle.std.specs.Prelude.{◌≡◌, ◌≢◌, ◌↔◌, ◌≤◌, ◌++◌, ◌∷◌, [], ℕ, List, length, map, codes, IfOk, IfErr, OnOk, OnErr, Err};
 ghost use Rattle.std.specs.Io.KnownBytes.{Appends, Consumes};
+ghost use Rattle.vm_host.specs.declared.phase.Phase.TheVariants.{Waiting};
+ghost use Rattle.vm_host.specs.Boundary.{bounded};
+ghost use Rattle.vm_host.specs.Epoch.{after_epoch};
 ghost use Rattle.vm_sim.specs.declared.run_error.RunError.TheVariants.{Workers};
 ghost use Rattle.vm_sim.specs.Course.{start_line, lines_at, next_world, world_from, world_after};
-ghost use Rattle.vm_sim.specs.Report.{name_at, told_in_epoch, report_from, report_of};
+ghost use Rattle.vm_sim.specs.Report.{name_at, boundary_told, epoch_text, told_in_epoch, report_from, report_of};
 ghost use Rattle.vm_sim.specs.Run.{Succeeds, Fails, CutShort};
 ghost use Rattle.vm_sim.specs.Streams.{AppendsFront};
 
@@ -70,13 +73,46 @@ fn epoch<W: Sink>(
         (told_in_epoch number host.old)) }
     ensures cause { IfErr result (CutShort (W.has_failed writer.new)) }
 {
+    tell_boundary(alloc, number, host, writer)?;
+    tell_epoch(alloc, host, writer)?;
+    Ok(())
+}
+
+// The boundary before an epoch, and what is told of it.
+#[tactic(auto, unfolding(crate::specs::Report::boundary_told))]
+fn tell_boundary<W: Sink>(
+    alloc: Global,
+    number: u32,
+    host: &mut Host,
+    writer: &mut W,
+) -> Result<(), RunError>
+    ensures host { OnOk result (host.new ≡ bounded host.old (lines_at host.old.domains number)) }
+    ensures written { OnOk result (Appends (W.contents writer.old) (W.contents writer.new)
+        (boundary_told number host.old)) }
+    ensures front { OnErr result (AppendsFront (W.contents writer.old) (W.contents writer.new)
+        (boundary_told number host.old)) }
+    ensures cause { IfErr result (CutShort (W.has_failed writer.new)) }
+{
     let lines = lines_at(alloc, host, number)?;
     let boundary = host.boundary(alloc, &lines)?;
-    let before = boundary_text(alloc, number, host, &boundary)?;
-    write_text(writer, before.as_bytes())?;
+    let text = boundary_text(alloc, number, host, &boundary)?;
+    write_text(writer, text.as_bytes())?;
+    Ok(())
+}
+
+// The epoch of a host that is ready for it, and what is told of it.
+fn tell_epoch<W: Sink>(alloc: Global, host: &mut Host, writer: &mut W) -> Result<(), RunError>
+    requires ready { host.old.phase ≢ Waiting }
+    ensures host { OnOk result (host.new ≡ after_epoch host.old) }
+    ensures written { OnOk result (Appends (W.contents writer.old) (W.contents writer.new)
+        (epoch_text (after_epoch host.old))) }
+    ensures front { OnErr result (AppendsFront (W.contents writer.old) (W.contents writer.new)
+        (epoch_text (after_epoch host.old))) }
+    ensures cause { IfErr result (CutShort (W.has_failed writer.new)) }
+{
     host.epoch()?;
-    let after = epoch_text(alloc, host)?;
-    write_text(writer, after.as_bytes())?;
+    let text = epoch_text(alloc, host)?;
+    write_text(writer, text.as_bytes())?;
     Ok(())
 }
 

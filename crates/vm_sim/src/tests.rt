@@ -67,6 +67,34 @@ const FREED_READS_ZERO_REPORT: &str =
 web target 4 held 4 swapped 0 balloon 0 active 65536 bad 0 done 3\n\
 machine 100 held 4 free 96 overhead 0\n";
 
+const RAW_INFLATE: &str =
+    "{\"version\":1,\"frames\":100,\"epochs\":2,\"guests\":[{\"name\":\"g\",\"size\":4,\"min\":4,\
+\"trace\":[\"w 0 0 ff\",\"p i 00000000\",\"r 0 0 1\"]}]}";
+
+const RAW_INFLATE_REPORT: &str = "epoch 0\n> start g\nok\nstate high free 96\ng stall 0\n\
+epoch 1\nstate high free 96\ng r 0 0 00\nend\n\
+g target 4 held 4 swapped 0 balloon 0 active 65536 bad 0 done 3\n\
+machine 100 held 4 free 96 overhead 0\n";
+
+const SLOW_DECAY: &str =
+    "{\"version\":1,\"frames\":100,\"quantum\":2,\"epochs\":3,\"guests\":[{\"name\":\"z\",\
+\"size\":1,\"min\":1,\"samples\":4,\"period\":2}]}";
+
+const SLOW_DECAY_REPORT: &str =
+    "epoch 0\n> start z\nok\nstate high free 99\nepoch 1\nstate high free 99\n\
+epoch 2\nstate high free 99\nend\n\
+z target 1 held 1 swapped 0 balloon 0 active 43904 bad 0 done 0\n\
+machine 100 held 1 free 99 overhead 0\n";
+
+const TOO_MANY_RAW: &str =
+    "{\"version\":1,\"frames\":100,\"epochs\":1,\"guests\":[{\"name\":\"g\",\"size\":4,\"min\":4,\
+\"trace\":[\"p s 00\",\"p s 00\",\"p s 00\",\"p s 00\",\"p s 00\",\"p s 00\",\"p s 00\",\"p s 00\",\"p s 00\",\
+\"p s 00\",\"p s 00\",\"p s 00\",\"p s 00\",\"p s 00\",\"p s 00\",\"p s 00\",\"p s 00\"]}]}";
+
+const TOO_MANY_RAW_REPORT: &str = "epoch 0\n> start g\nok\nstate high free 96\nend\n\
+g target 4 held 4 swapped 0 balloon 0 active 65536 bad 1 done 17\n\
+machine 100 held 4 free 96 overhead 0\n";
+
 /// A reader that fails.
 #[derive(Drop)]
 struct Broken {
@@ -153,6 +181,9 @@ fn reports_are_those_of_the_examples(rt: HostRuntime) {
         (NO_GUESTS, NO_GUESTS_REPORT),
         (NO_EPOCHS, NO_EPOCHS_REPORT),
         (FREED_READS_ZERO, FREED_READS_ZERO_REPORT),
+        (RAW_INFLATE, RAW_INFLATE_REPORT),
+        (SLOW_DECAY, SLOW_DECAY_REPORT),
+        (TOO_MANY_RAW, TOO_MANY_RAW_REPORT),
     ];
     for (text, report) in examples {
         let mut reader = Watched::new(text.as_bytes());
@@ -301,15 +332,15 @@ fn keys_of_the_root_are_refused_in_order(rt: HostRuntime) {
             Some(ConfigError::Kind),
         ),
         (
-            "\"frames\":1,\"epochs\":10,\"guests\":{}",
+            "\"frames\":1,\"epochs\":10001,\"guests\":{}",
             Some(ConfigError::Range),
         ),
         (
-            "\"frames\":1,\"quantum\":1,\"epochs\":999,\"guests\":[]",
+            "\"frames\":1,\"quantum\":65536,\"epochs\":10000,\"guests\":[]",
             None,
         ),
         (
-            "\"frames\":1,\"quantum\":1,\"epochs\":1000,\"guests\":[]",
+            "\"frames\":1,\"quantum\":65537,\"epochs\":1,\"guests\":[]",
             Some(ConfigError::Range),
         ),
         (
@@ -365,6 +396,34 @@ fn keys_of_guests_are_refused_in_order(rt: HostRuntime) {
             "{\"name\":\"a\",\"size\":4,\"min\":4,\"trace\":[1]}",
             Some(ConfigError::Kind),
         ),
+        (
+            "{\"name\":\"a\",\"size\":4,\"min\":4,\"shares\":1000001}",
+            Some(ConfigError::Range),
+        ),
+        (
+            "{\"name\":\"a\",\"size\":4,\"min\":4,\"samples\":1001}",
+            Some(ConfigError::Range),
+        ),
+        (
+            "{\"name\":\"a\",\"size\":4,\"min\":4,\"period\":0}",
+            Some(ConfigError::Range),
+        ),
+        (
+            "{\"name\":\"a\",\"size\":4,\"min\":4,\"rate\":257}",
+            Some(ConfigError::Range),
+        ),
+        (
+            "{\"name\":\"a\",\"size\":4,\"min\":4,\"seed\":-1}",
+            Some(ConfigError::Kind),
+        ),
+        (
+            "{\"name\":\"a\",\"size\":4,\"min\":4,\"stream\":18446744073709551616}",
+            Some(ConfigError::Kind),
+        ),
+        (
+            "{\"name\":\"a\",\"size\":4,\"min\":4,\"seed\":18446744073709551615}",
+            None,
+        ),
         ("{\"name\":\"a\",\"size\":96,\"min\":96}", None),
         (
             "{\"name\":\"a\",\"size\":97,\"min\":97}",
@@ -385,7 +444,8 @@ fn steps_are_refused(rt: HostRuntime) {
     let steps = [
         ("r 3 0 1", None),
         ("w 0 0 f", Some(TraceError::Hex)),
-        ("p i 00", Some(TraceError::Unknown)),
+        ("p i 00", None),
+        ("p q 00", Some(TraceError::Unknown)),
         ("p i 0", Some(TraceError::Hex)),
         ("f 4", Some(TraceError::Range)),
         ("r 4 0 17", Some(TraceError::Range)),

@@ -1,10 +1,9 @@
 // The steps of a guest, read from their texts.
 ghost use Rattle.std.specs.Prelude.{◌≡◌, ◌≤◌, ◌<◌, [], map, length, All, IfOk};
-ghost use Rattle.vm_guest.specs.Config.{IsRunnable};
-ghost use Rattle.vm_trace.specs.Limits.{IsStep};
+ghost use Rattle.vm_trace.specs.Limits.{IsStep, IsWithin};
 ghost use Rattle.vm_sim.specs.Outcomes.{IsOrMemory};
 ghost use Rattle.vm_sim.specs.Reading.{steps_from};
-ghost use Rattle.vm_sim.specs.Trace.{on_page, runnable, step_in};
+ghost use Rattle.vm_sim.specs.Trace.{on_page, step_in, within_pages};
 
 use crate::error::ConfigError;
 use std::alloc::Global;
@@ -22,10 +21,10 @@ fn on_page(size: u32, page: u32, step: Step) -> Result<Step, TraceError>
     }
 }
 
-// The step, if a guest with this many pages can run it.
-fn runnable(size: u32, step: Step) -> Result<Step, TraceError>
-    ensures step { result ≡ runnable size step }
-    ensures runnable { IfOk result (IsRunnable size) }
+// The step, if its page is one of a guest with this many pages.
+fn within_pages(size: u32, step: Step) -> Result<Step, TraceError>
+    ensures step { result ≡ within_pages size step }
+    ensures within { IfOk result (IsWithin size) }
     ensures bounded { IfOk result IsStep }
 {
     match step.action() {
@@ -33,18 +32,18 @@ fn runnable(size: u32, step: Step) -> Result<Step, TraceError>
         Action::Write { page, .. } => on_page(size, page, step),
         Action::Free { page } => on_page(size, page, step),
         Action::Idle => Ok(step),
-        Action::Post { .. } => Err(TraceError::Unknown),
+        Action::Post { .. } => Ok(step),
     }
 }
 
 // The step that a text is.
 fn step_in(size: u32, text: &str) -> Result<Step, TraceError>
     ensures step { result ≡ step_in size text.now }
-    ensures runnable { IfOk result (IsRunnable size) }
+    ensures within { IfOk result (IsWithin size) }
     ensures bounded { IfOk result IsStep }
 {
     let step = parse_step(text)?;
-    runnable(size, step)
+    within_pages(size, step)
 }
 
 // The steps, or the first fault with its place.
@@ -55,7 +54,7 @@ pub(crate) fn trace(
     texts: &[&str],
 ) -> Result<Trace, ConfigError>
     ensures steps { IsOrMemory result (steps_from guest size (map (λ text. text.now) texts.now) []) }
-    ensures runnable { IfOk result (All (IsRunnable size)) }
+    ensures within { IfOk result (All (IsWithin size)) }
     ensures bounded { IfOk result (All IsStep) }
     ensures count { IfOk result (λ steps. length steps ≤ length texts.now) }
 {

@@ -1,6 +1,5 @@
 use Rattle.std.proofs.Common.{◌≡◌, ◌≤◌, [], map, drop, length, All}
-use Rattle.vm_guest.specs.Config.{IsRunnable}
-use Rattle.vm_trace.specs.Limits.{IsStep}
+use Rattle.vm_trace.specs.Limits.{IsStep, IsWithin}
 use Rattle.vm_sim.specs.Reading.{steps_from}
 use Rattle.vm_sim.proofs.trace.trace.Given as goal
 
@@ -9,7 +8,7 @@ abbrev pub invariant-loop-text : goal.invariant-loop-text
 invariant-loop-text l = record {
   completes : steps_from l.guest l.size (map (λ text. text.now) (drop l.text-index l.texts)) l.steps
       ≡ steps_from l.guest l.size (map (λ text. text.now) l.texts) [];
-  runnable : All (IsRunnable l.size) l.steps;
+  within : All (IsWithin l.size) l.steps;
   bounded : All IsStep l.steps;
   count : length l.steps ≤ l.text-index;
 }
