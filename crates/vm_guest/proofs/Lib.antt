@@ -7,6 +7,7 @@ pub mod EpochLemmas
 pub mod FirstLemmas
 pub mod FitLemmas
 pub mod FreeLemmas
+pub mod GoodLemmas
 pub mod GuestLemmas
 pub mod HeldLemmas
 pub mod HoldingLemmas

@@ -1,9 +1,9 @@
 // What an epoch is, piece by piece, and what a guest's memory and its reads show, said by the last write of each byte.
-ghost use Rattle.std.specs.Prelude.{◌≡◌, ℕ, Bool, List, ◌∷◌, ◌++◌, []};
+ghost use Rattle.std.specs.Prelude.{◌≡◌, ℕ, ◌-◌, ◌<◌, ◌≤◌, Bool, List, ◌∷◌, ◌++◌, []};
 ghost use Rattle.vm_guest.specs.Boundary.{serviced, without_spares, released, revoked, granted, with_spare, with_cap, with_min, with_shares, ordered};
 ghost use Rattle.vm_guest.specs.Config.{GuestConfig, IsWithinLimits};
 ghost use Rattle.vm_guest.specs.Epoch.{epoch, epoch_by_steps, pieces};
-ghost use Rattle.vm_guest.specs.Good.{IsSound, HasNothingPosted};
+ghost use Rattle.vm_guest.specs.Good.{IsGood, IsSound, HasNothingPosted};
 ghost use Rattle.vm_guest.specs.Happenings.{Happening, Started, epoch_happenings, service_happenings, reads_by, IsWrittenBy};
 ghost use Rattle.vm_guest.specs.Record.{GuestRecord};
 ghost use Rattle.vm_guest.specs.Start.{started};
@@ -36,4 +36,21 @@ pub fn law_last_write()
     ensures with_min { (g : GuestRecord) (least : ℕ) (before : List Happening) → IsWrittenBy before g → IsWrittenBy before (with_min g least) }
     ensures with_shares { (g : GuestRecord) (shares : ℕ) (before : List Happening) → IsWrittenBy before g → IsWrittenBy before (with_shares g shares) }
     ensures ordered { (g : GuestRecord) (blocked : Bool) (before : List Happening) → IsWrittenBy before g → IsWrittenBy before (ordered g blocked) }
+{}
+
+/// What is true of a guest's record stays true: each call of a host and each epoch keeps it good. Only a raised minimum leaves a
+/// guest with fewer frames than its target, until its last spare has come.
+pub fn law_good()
+    ensures started { (c : GuestConfig) → IsWithinLimits c → IsGood (started c) }
+    ensures epoch { (g : GuestRecord) → HasNothingPosted g → IsGood g → IsGood (epoch g) }
+    ensures serviced { (g : GuestRecord) → IsGood g → IsGood (serviced g) }
+    ensures without_spares { (g : GuestRecord) → IsGood g → IsGood (without_spares g) }
+    ensures released { (n : ℕ) (g : GuestRecord) → n ≤ g.memory.held - g.allotment.target → IsGood g → IsGood (released n g) }
+    ensures revoked { (g : GuestRecord) → g.allotment.min < g.allotment.target → IsGood g → IsGood (revoked g) }
+    ensures granted { (g : GuestRecord) → 0 < g.allotment.demand → g.allotment.target < g.allotment.cap → IsGood g → IsGood (granted g) }
+    ensures with_cap { (g : GuestRecord) (cap : ℕ) → g.allotment.min ≤ cap → cap ≤ g.config.size → IsGood g → IsGood (with_cap g cap) }
+    ensures with_shares { (g : GuestRecord) (shares : ℕ) → IsGood g → IsGood (with_shares g shares) }
+    ensures ordered { (g : GuestRecord) (blocked : Bool) → IsGood g → IsGood (ordered g blocked) }
+    ensures with_min { (g : GuestRecord) (least : ℕ) → 1 ≤ least → least ≤ g.allotment.cap → IsGood g → IsSound (with_min g least) }
+    ensures with_spare { (g : GuestRecord) → g.memory.held < g.allotment.target → IsSound g → IsSound (with_spare g) }
 {}
