@@ -14,7 +14,7 @@ state_of d = record {
   early = d.early;
   inflates = d.inflates.buffers;
   deflates = d.deflates.buffers;
-  reports = d.reports.items;
+  reports = d.reports.list;
   num_pages = d.num_pages;
   actual = d.actual;
   stats = d.stats;
@@ -37,10 +37,10 @@ pub record IsDevice (d : Inside) : Type 0 where
   pub early_left : count d.balloon + length d.early_list.items ≤ d.size
   pub room_early : d.size ≤ vec_capacity d.early_list
   pub few_buffers : d.buffers ≤ 256
-  pub posted : length d.inflates.buffers + length d.deflates.buffers + length d.reports.items ≤ d.buffers
+  pub posted : length d.inflates.buffers + length d.deflates.buffers + length d.reports.list ≤ d.buffers
   pub room_inflates : d.buffers ≤ d.inflates.room
   pub room_deflates : d.buffers ≤ d.deflates.room
-  pub room_reports : d.buffers ≤ vec_capacity d.reports
+  pub room_reports : d.buffers ≤ d.reports.room
   pub room_numbers : 256 * d.buffers ≤ vec_capacity d.numbers
   pub room_inflated : 256 * d.buffers ≤ vec_capacity d.served.inflated
   pub room_deflated : 256 * d.buffers ≤ vec_capacity d.served.deflated

@@ -3,6 +3,7 @@ pub mod Statistics
 pub mod StatsOf
 pub mod Service
 pub mod Posted
+pub mod BuffersFields
 pub mod PageQueue
 pub mod Device
 pub mod DeviceFields

@@ -1,5 +1,11 @@
--- What a contract sees of a queue of posted page buffers.
+-- What a contract sees of a queue of posted buffers.
 use Rattle.std.specs.Prelude.{ℕ, List}
+
+pub record PostedBuffers : Type 0 where
+  -- how many buffers can be posted
+  pub room : ℕ
+  -- the bytes of each buffer, in order of posting
+  pub list : List (List ℕ)
 
 pub record PostedPages : Type 0 where
   -- the pages of the guest

@@ -8,8 +8,9 @@ pub const MOST_BYTES: usize = 1024;
 /// The bytes of a posted buffer, which are kept in place.
 #[derive(Debug, Drop)]
 pub struct Buffer {
-    bytes: [u8; MOST_BYTES],
+    // Beside the first bytes, which are mostly all that there are.
     len: usize,
+    bytes: [u8; MOST_BYTES],
 }
 
 impl Model for Buffer {
@@ -29,7 +30,17 @@ impl Buffer {
         let len = source.len();
         let mut bytes = [0; MOST_BYTES];
         bytes[..len].copy_from_slice(source);
-        Buffer { bytes, len }
+        Buffer { len, bytes }
+    }
+
+    /// Becomes a copy of these bytes.
+    pub fn write(&mut self, source: &[u8])
+        requires { length source.now ≤ 1024 }
+        ensures { self.new ≡ source.now }
+    {
+        let len = source.len();
+        self.bytes[..len].copy_from_slice(source);
+        self.len = len;
     }
 
     /// The bytes.

@@ -7,8 +7,9 @@ ghost use Rattle.vm_balloon.specs.Service.{numbers_in, refused, inflated_by, def
 ghost use Rattle.vm_balloon.specs.Device.{device_of, posted_count, with_posted, names, with_early_use, inflated, deflated, bad, last_stats, served, IsGood};
 
 use crate::buffer::{Buffer, MOST_BYTES};
+use crate::buffers::Buffers;
 use crate::page_queue::PageQueue;
-use crate::service::{clear_listed, deflate, inflate, push_within, read_numbers};
+use crate::service::{clear_listed, deflate, inflate, read_numbers};
 use crate::{PostError, Stats};
 use std::alloc::{AllocError, Global};
 use std::marker::Model;
@@ -57,7 +58,7 @@ pub struct Device {
     early_list: Vec<u32>,
     inflates: PageQueue,
     deflates: PageQueue,
-    reports: Vec<Buffer>,
+    reports: Buffers,
     num_pages: u32,
     actual: u32,
     stats: Stats,
@@ -85,11 +86,12 @@ impl Device {
     /// The device of a guest of `size` pages, to which `buffers` buffers can be posted between two services. The balloon is empty,
     /// nothing is posted, both numbers of the configuration space are 0, and there are no statistics.
     ///
-    /// An `Err` means that memory was refused.
+    /// An `Err` means that memory was refused, which is only where there are pages or buffers.
     pub fn new(alloc: Global, size: u32, buffers: u32) -> Result<Self, AllocError>
         requires size_in_range { size ≤ 262144 }
         requires buffers_in_range { buffers ≤ 256 }
-        ensures { IfOk result (λ device. device ≡ device_of size buffers) }
+        ensures device { IfOk result (λ device. device ≡ device_of size buffers) }
+        ensures memory { OnErr result (0 < size + buffers) }
     {
         let room = buffers as usize;
         Ok(Device {
@@ -100,7 +102,7 @@ impl Device {
             early_list: Vec::with_capacity(alloc, size as usize)?,
             inflates: PageQueue::new(alloc, size, room)?,
             deflates: PageQueue::new(alloc, size, room)?,
-            reports: Vec::with_capacity(alloc, room)?,
+            reports: Buffers::new(alloc, room)?,
             num_pages: 0,
             actual: 0,
             stats: Stats::default(),
@@ -133,7 +135,7 @@ impl Device {
         match queue {
             Queue::Inflate => self.inflates.push(bytes),
             Queue::Deflate => self.deflates.push(bytes),
-            Queue::Statistics => push_within(&mut self.reports, Buffer::of(bytes)),
+            Queue::Statistics => self.reports.push(bytes),
         }
         Ok(())
     }
@@ -272,7 +274,7 @@ impl Device {
             &mut self.served,
         );
         clear_listed(&mut self.early_list, &mut self.early);
-        self.stats = last_stats(self.stats, &self.reports);
+        self.stats = last_stats(self.stats, self.reports.as_slice());
         self.inflates.clear();
         self.deflates.clear();
         self.reports.clear();

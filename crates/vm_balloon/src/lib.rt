@@ -5,6 +5,7 @@
 #![tactic(auto)]
 
 mod buffer;
+mod buffers;
 mod device;
 mod error;
 mod page_queue;

@@ -1,10 +1,11 @@
-ghost use Rattle.std.specs.Prelude.{◌≡◌, ◌+◌, ◌<◌, ◌≤◌, ◌∷◌, ◌++◌, [], IfOk, length};
+ghost use Rattle.std.specs.Prelude.{◌≡◌, ◌+◌, ◌<◌, ◌≤◌, ◌∷◌, ◌++◌, [], IfOk, OnErr, length};
 ghost use Rattle.vm_pages.specs.Pages.{insert, remove, insert_all, remove_all};
 ghost use Rattle.vm_balloon.specs.Virtio.{page_numbers};
 ghost use Rattle.vm_balloon.specs.Service.{numbers_in};
 ghost use Rattle.vm_balloon.specs.Device.{names};
 
 use crate::buffer::Buffer;
+use crate::buffers::Buffers;
 use crate::virtio::{page_count, page_number};
 use std::alloc::{AllocError, Global};
 use std::marker::Model;
@@ -14,7 +15,7 @@ use vm_pages::PageSet;
 #[derive(Drop)]
 pub struct PageQueue {
     size: u32,
-    buffers: Vec<Buffer>,
+    buffers: Buffers,
     named: PageSet,
 }
 
@@ -31,14 +32,15 @@ impl Model for PageQueue {
 }
 
 impl PageQueue {
-    /// An empty queue of a guest of `size` pages, with room for so many buffers.
+    /// An empty queue of a guest of `size` pages, with room for so many buffers. Memory is wanted only for pages and buffers.
     pub fn new(alloc: Global, size: u32, room: usize) -> Result<Self, AllocError>
         requires { size ≤ 262144 }
-        ensures { IfOk result (λ queue. queue ≡ record { size = size; room = room; buffers = [] }) }
+        ensures queue { IfOk result (λ queue. queue ≡ record { size = size; room = room; buffers = [] }) }
+        ensures memory { OnErr result (0 < size + room) }
     {
         Ok(PageQueue {
             size,
-            buffers: Vec::with_capacity(alloc, room)?,
+            buffers: Buffers::new(alloc, room)?,
             named: PageSet::new(alloc, size)?,
         })
     }
@@ -50,14 +52,14 @@ impl PageQueue {
         ensures { self.new ≡ record self.old { buffers = self.old.buffers ++ bytes.now ∷ [] } }
     {
         mark_pages(bytes, self.size, &mut self.named);
-        self.buffers.push_reserved(Buffer::of(bytes));
+        self.buffers.push(bytes);
     }
 
     /// Takes all buffers out, in time for their bytes.
     pub fn clear(&mut self)
         ensures { self.new ≡ record self.old { buffers = [] } }
     {
-        unmark_all(&self.buffers, self.size, &mut self.named);
+        unmark_all(self.buffers.as_slice(), self.size, &mut self.named);
         self.buffers.clear();
     }
 
@@ -72,7 +74,7 @@ impl PageQueue {
     pub fn buffers(&self) -> &[Buffer]
         ensures { result.now ≡ self.now.buffers }
     {
-        &self.buffers
+        self.buffers.as_slice()
     }
 
     /// How many buffers are posted.

@@ -1,6 +1,4 @@
-ghost use Rattle.std.specs.Prelude.{◌≡◌};
-ghost use Rattle.vm_balloon.specs.Virtio.{stat_entries};
-ghost use Rattle.vm_balloon.specs.Statistics.{last_value};
+ghost use Rattle.std.specs.Prelude.{◌≡◌, Some, if◌then◌else◌};
 
 use crate::virtio::{stat_count, stat_entry};
 
@@ -39,35 +37,39 @@ pub struct Stats {
 }
 
 impl Stats {
-    ghost use Rattle.vm_balloon.specs.StatsOf.{stats_of};
+    ghost use Rattle.vm_balloon.specs.StatsOf.{stats_of, with_entry};
 
     /// The numbers in a statistics buffer. Unknown tags and a rest below 10 bytes say nothing.
     pub(crate) fn in_buffer(bytes: &[u8]) -> Self
         ensures { result ≡ stats_of bytes.now }
     {
+        let mut stats = Stats::default();
+        for i in 0..stat_count(bytes) {
+            let (tag, value) = stat_entry(bytes, i);
+            stats = stats.with_entry(tag, value);
+        }
+        stats
+    }
+
+    // The numbers once one more entry was read.
+    fn with_entry(self, tag: u16, value: u64) -> Self
+        ensures { result ≡ with_entry self (tag, value) }
+    {
         Stats {
-            swap_in: last_value(bytes, SWAP_IN),
-            swap_out: last_value(bytes, SWAP_OUT),
-            major_faults: last_value(bytes, MAJOR_FAULTS),
-            minor_faults: last_value(bytes, MINOR_FAULTS),
-            free: last_value(bytes, FREE),
-            total: last_value(bytes, TOTAL),
-            available: last_value(bytes, AVAILABLE),
+            swap_in: value_if(tag == SWAP_IN, value, self.swap_in),
+            swap_out: value_if(tag == SWAP_OUT, value, self.swap_out),
+            major_faults: value_if(tag == MAJOR_FAULTS, value, self.major_faults),
+            minor_faults: value_if(tag == MINOR_FAULTS, value, self.minor_faults),
+            free: value_if(tag == FREE, value, self.free),
+            total: value_if(tag == TOTAL, value, self.total),
+            available: value_if(tag == AVAILABLE, value, self.available),
         }
     }
 }
 
-// The value of the last entry with the tag.
-#[tactic(auto, using(crate::proofs::StatisticsLemmas::values))]
-fn last_value(bytes: &[u8], tag: u16) -> Option<u64>
-    ensures { result ≡ last_value tag (stat_entries bytes.now) }
+// The value, if it counts, or else what there was before.
+fn value_if(counts: bool, value: u64, before: Option<u64>) -> Option<u64>
+    ensures { result ≡ (if counts then Some value else before) }
 {
-    let mut last = None;
-    for i in 0..stat_count(bytes) {
-        let (entry_tag, value) = stat_entry(bytes, i);
-        if entry_tag == tag {
-            last = Some(value);
-        }
-    }
-    last
+    if counts { Some(value) } else { before }
 }

@@ -50,6 +50,34 @@ fn ballooned_pages_are_listed(rt: HostRuntime) -> Result<(), Fail> {
     Ok(())
 }
 
+// What is posted after a service takes the places of what was posted before it, also where it is shorter.
+#[test]
+fn places_are_used_again(rt: HostRuntime) -> Result<(), Fail> {
+    let mut device = Device::new(rt.alloc(), 8, 4)?;
+    let six_one_and_four = [6, 0, 0, 0, 1, 0, 0, 0, 4, 0, 0, 0];
+    assert_eq!(rt; device.post(Queue::Inflate, &six_one_and_four), Ok(()));
+    assert_eq!(rt; device.post(Queue::Inflate, &encode_page(3)), Ok(()));
+    assert_eq!(rt;
+        device.post(Queue::Statistics, &[5, 0, 9, 0, 0, 0, 0, 0, 0, 0]),
+        Ok(())
+    );
+    check_service(&rt, &mut device, &[6, 1, 4, 3], &[], 0);
+    assert_eq!(rt; device.stats().total, Some(9));
+
+    assert_eq!(rt; device.post(Queue::Inflate, &encode_page(5)), Ok(()));
+    assert_eq!(rt; device.post(Queue::Statistics, &[5, 0]), Ok(()));
+    check_service(&rt, &mut device, &[5], &[], 0);
+    assert_eq!(rt; device.stats(), Stats::default());
+
+    let two_and_seven = [2, 0, 0, 0, 7, 0, 0, 0];
+    assert_eq!(rt; device.post(Queue::Inflate, &[]), Ok(()));
+    assert_eq!(rt; device.post(Queue::Inflate, &two_and_seven), Ok(()));
+    assert_eq!(rt; device.post(Queue::Inflate, &encode_page(0)), Ok(()));
+    check_service(&rt, &mut device, &[2, 7, 0], &[], 0);
+    assert_eq!(rt; device.balloon_len(), 8);
+    Ok(())
+}
+
 #[test]
 fn refused_posts(rt: HostRuntime) -> Result<(), Fail> {
     let mut device = Device::new(rt.alloc(), 4, 2)?;

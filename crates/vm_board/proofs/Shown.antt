@@ -20,7 +20,7 @@ use Rattle.vm_board.specs.Tickets.{ticket, mark, IsKept}
 use Rattle.vm_board.specs.Shown.{Knows, StandsIn, Shows, after_draw, after_finish, after_split, after_join, MayDraw, Agrees, ShowsRounds}
 use Rattle.vm_board.proofs.Sums.{total_at}
 use Rattle.vm_board.proofs.Rounds.{either, both_true, give_numbers, turn_numbers, step_turns, down_turns, start_numbers}
-use Rattle.vm_board.proofs.Tickets.{once_self, has_here, draw_hit, draw_miss, drawn_hand, ended_hand, raised, marks_stay, same_ticket, marked_here, marked_else, finish_kept, opens_at, there, no_marks}
+use Rattle.vm_board.proofs.Tickets.{once_self, has_here, draw_hit, draw_miss, raised, marks_stay, same_ticket, marked_here, marked_else, finish_kept, opens_at, there, no_marks}
 use Rattle.vm_board.proofs.Tickets as tickets
 
 one_with_none : (w : ℕ) (p : Place) → ((k : ℕ) → p ≢ with_worker w k) → one_with w p ≡ 0

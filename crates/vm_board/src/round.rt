@@ -1,5 +1,5 @@
 //! A round of jobs, each run once.
-ghost use Rattle.std.specs.Prelude.{◌≡◌, ◌<◌, ◌≤◌, length, map, All, IfOk, IfErr};
+ghost use Rattle.std.specs.Prelude.{◌≡◌, ◌<◌, ◌≤◌, length, map, All, IfOk, IfErr, OnErr};
 ghost use Rattle.vm_board.specs.Boards.{IsIdle, IsOver};
 ghost use Rattle.vm_board.specs.Pieces.{finished};
 
@@ -16,7 +16,8 @@ use std::thread::Threads;
 ///
 /// Each thread draws a job, enters the gate, runs it, leaves the gate and finishes it, until none is left. With one
 /// worker or one job there is no thread beside the caller's, and a thread that can't be started is done without. It may
-/// wait for its threads to end. Where a request for memory is refused the jobs come back, none run.
+/// wait for its threads to end. Where a request for memory is refused, which is only where there are jobs, they come back,
+/// none run.
 pub fn run_round<R: Threads + Sync, G: Gate + Sync, J: Work + Send>(
     rt: &R,
     alloc: Global,
@@ -29,8 +30,12 @@ pub fn run_round<R: Threads + Sync, G: Gate + Sync, J: Work + Send>(
     requires ready { All J.ready jobs }
     ensures ok { IfOk result (λ done. done ≡ map (finished J.pieces J.piece) jobs) }
     ensures err { IfErr result (λ e. e.jobs ≡ jobs) }
+    ensures memory { OnErr result (0 < length jobs) }
 {
-    let seats = workers.min(jobs.len() as u32).max(1);
+    if jobs.is_empty() {
+        return Ok(jobs);
+    }
+    let seats = workers.min(jobs.len() as u32);
     let (board, mut passes) = Board::new(alloc, jobs, seats)?;
     drain_all(rt, &board, gate, seats, passes.list.as_mut_slice());
     Ok(board.close(passes))

@@ -330,14 +330,29 @@ fn a_refused_board_hands_the_jobs_back(rt: HostRuntime) -> Result<(), Fail> {
     Ok(())
 }
 
+// And none has entered the gate, which no clause says.
 #[test]
 fn a_refused_round_hands_the_jobs_back(rt: HostRuntime) -> Result<(), Fail> {
-    let right = match run_round(&rt, rt.alloc(), &Open, 2, tallies(rt.alloc(), 3)?) {
-        Ok(done) => ran(done, 3, 1),
-        Err(refused) => ran(refused.jobs, 3, 0),
+    let gate = new_turnstile();
+    let (right, entered) = match run_round(&rt, rt.alloc(), &gate, 2, tallies(rt.alloc(), 3)?) {
+        Ok(done) => (ran(done, 3, 1), true),
+        Err(refused) => (ran(refused.jobs, 3, 0), false),
     };
     assert!(rt; right);
+    assert_eq!(rt; gate.most.load(Ordering::SeqCst) > 0, entered);
     Ok(())
+}
+
+// No memory is wanted for it, so that none can be refused.
+#[test]
+fn a_round_of_no_jobs_is_over(rt: HostRuntime) {
+    for workers in [1, 64] {
+        let jobs: Jobs<Tally> = Jobs::from(Vec::new(rt.alloc()));
+        let Ok(done) = run_round(&rt, rt.alloc(), &Open, workers, jobs) else {
+            panic!(rt; "memory")
+        };
+        assert!(rt; done.is_empty());
+    }
 }
 
 // Two jobs that can't be dropped, with 1 stamp and 5.
@@ -376,5 +391,125 @@ fn no_parcel_is_lost(rt: HostRuntime) -> Result<(), Fail> {
     };
     // 2 * (2 * (2 * 1) + 1) + 2 is 12, and from 5 it is 44
     assert_eq!(rt; stamps, if ran { (12, 44) } else { (1, 5) });
+    Ok(())
+}
+
+// What eight numbers did so far.
+#[derive(Drop)]
+struct Marks {
+    entered: [AtomicU64; 8],
+    ran: [AtomicU64; 8],
+    left: [AtomicU64; 8],
+}
+
+fn no_marks() -> Marks {
+    Marks {
+        entered: array::from_fn(|_: usize| AtomicU64::new(0)),
+        ran: array::from_fn(|_: usize| AtomicU64::new(0)),
+        left: array::from_fn(|_: usize| AtomicU64::new(0)),
+    }
+}
+
+// A job that looks at its gate while it runs: its run counts only where its number has entered, and not left.
+#[derive(Drop)]
+struct Witness<'a> {
+    number: usize,
+    marks: &'a Marks,
+}
+
+impl Work for Witness<'_> {
+    ghost use Rattle.std.specs.Prelude.{◌<◌};
+
+    ghost ready = { λ job. job.number < 8 };
+
+    ghost pieces = { λ _. 0 };
+
+    ghost piece = { λ _ job. job };
+
+    fn run(&mut self) {
+        let marks = self.marks;
+        let has_entered = marks.entered[self.number].load(Ordering::SeqCst) == 1;
+        if has_entered && marks.left[self.number].load(Ordering::SeqCst) == 0 {
+            marks.ran[self.number].fetch_add(1, Ordering::SeqCst);
+        }
+    }
+}
+
+// A gate that looks at its board: a number has left only where it was run, and isn't finished.
+#[derive(Drop)]
+struct Watch<'a, 'm> {
+    marks: &'m Marks,
+    board: &'a Board<Witness<'m>>,
+}
+
+impl Gate for Watch<'_, '_> {
+    fn enter(&self, number: u32) {
+        let marks = self.marks;
+        if number < 8 {
+            marks.entered[number as usize].fetch_add(1, Ordering::SeqCst);
+        }
+    }
+
+    fn leave(&self, number: u32) {
+        if number >= 8 || is_finished(self.board, number) {
+            return;
+        }
+        let marks = self.marks;
+        if marks.ran[number as usize].load(Ordering::SeqCst) == 1 {
+            marks.left[number as usize].fetch_add(1, Ordering::SeqCst);
+        }
+    }
+}
+
+// Whether the board's own word of a number says that it is done.
+fn is_finished<J: Work>(board: &Board<J>, number: u32) -> bool {
+    let word = number as usize + 1;
+    word < board.table.word_count() && board.table.shared.peek(word) == 1
+}
+
+// Eight jobs that look at their gate.
+fn witnesses<'a>(alloc: Global, marks: &'a Marks) -> Result<Jobs<Witness<'a>>, AllocError>
+    ensures { IfOk result (λ jobs. (length jobs ≡ 8) × All (λ job. job.number < 8) jobs) }
+{
+    let mut list = Vec::with_capacity(alloc, 8)?;
+    for number in 0..8 {
+        list.push_reserved(Witness { number, marks });
+    }
+    Ok(Jobs::from(list))
+}
+
+// Three threads drain a board, whose gate looks at it.
+fn drain_watched<'m>(
+    rt: &(impl Threads + Sync),
+    marks: &'m Marks,
+    board: &Board<Witness<'m>>,
+    passes: &mut [Pass<Witness<'m>>],
+)
+    requires { All (IsIdle board.now) passes.old }
+    ensures { All (IsOver board.now) passes.new }
+{
+    let gate = Watch { marks, board };
+    drain_all(rt, board, &gate, 3, passes);
+}
+
+// Each number enters, runs, leaves and is finished, in this order. No clause says so, since a gate has no state that one could name.
+#[test]
+fn a_job_runs_inside_its_gate(rt: HostRuntime) -> Result<(), Fail> {
+    let all = no_marks();
+    let marks = &all;
+    let jobs = witnesses(rt.alloc(), marks)?;
+    let Ok((board, mut passes)) = Board::new(rt.alloc(), jobs, 3) else {
+        panic!(rt; "memory")
+    };
+    drain_watched(&rt, marks, &board, passes.list.as_mut_slice());
+    for number in 0..8 {
+        assert!(rt; is_finished(&board, number));
+        assert_eq!(rt;
+            marks.left[number as usize].load(Ordering::SeqCst),
+            1,
+            "{number}"
+        );
+    }
+    assert_eq!(rt; board.close(passes).len(), 8);
     Ok(())
 }

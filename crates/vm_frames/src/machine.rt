@@ -3,6 +3,7 @@ ghost use Rattle.std.specs.FinSet as set;
 ghost use Rattle.vm_frames.specs.KeptFrames.{numbers_of, numbers_below, without, AreDistinctIn};
 
 use crate::frame::Frame;
+use crate::memory::Memory;
 use std::alloc::{AllocError, Global};
 use std::marker::Model;
 
@@ -37,8 +38,9 @@ impl Machine {
     pub fn new(alloc: Global, frames: u32) -> Result<Machine, AllocError>
         ensures { IfOk result (λ m. m ≡ record { total = frames; out = set.empty }) }
     {
+        let memory = Memory::new(alloc, frames)?;
         let mut free = Vec::with_capacity(alloc, frames as usize)?;
-        match fill(alloc, &mut free, frames) {
+        match fill(memory, &mut free, frames) {
             Ok(()) => Ok(Machine {
                 total: frames,
                 free,
@@ -94,15 +96,18 @@ impl Machine {
 }
 
 // Adds frames of zeros until there are `frames`.
-fn fill(alloc: Global, free: &mut Vec<Frame>, frames: u32) -> Result<(), AllocError>
+fn fill(memory: Memory, free: &mut Vec<Frame>, frames: u32) -> Result<(), AllocError>
+    requires enough { memory.rest.count ≡ frames }
     requires empty { free.old.items ≡ [] }
     requires room { frames ≤ vec_capacity free.old }
     ensures distinct { OnOk result (AreDistinctIn (numbers_below frames) (numbers_of free.new.items)) }
     ensures all { OnOk result (without (numbers_below frames) (numbers_of free.new.items) ≡ set.empty) }
     ensures room { frames ≤ vec_capacity free.new }
 {
+    let mut left = memory;
     for number in (0..frames).rev() {
-        let frame = Frame::new(alloc, number)?;
+        let (frame, rest) = Frame::new(left, number)?;
+        left = rest;
         free.push_reserved(frame);
     }
     Ok(())

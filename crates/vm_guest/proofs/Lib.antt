@@ -11,6 +11,7 @@ pub mod GoodLemmas
 pub mod GuestLemmas
 pub mod HeldLemmas
 pub mod HoldingLemmas
+pub mod IdleLemmas
 pub mod KeptLemmas
 pub mod LastWriteLemmas
 pub mod MemoryLemmas
@@ -20,6 +21,7 @@ pub mod OpenLemmas
 pub mod PagePlaceLemmas
 pub mod PageSetLemmas
 pub mod PartLemmas
+pub mod PartwayLemmas
 pub mod PieceLemmas
 pub mod PlaceLemmas
 pub mod PostLemmas

@@ -1,4 +1,4 @@
-ghost use Rattle.std.specs.Prelude.{◌≡◌, ◌+◌, ◌-◌, ◌<◌, ◌≤◌, ◌↔◌, ◌^◌, IsTrue, IsSome, IfOk, IfErr, IfSome, OnOk, OnErr, min, true, false};
+ghost use Rattle.std.specs.Prelude.{◌≡◌, ◌+◌, ◌-◌, ◌<◌, ◌≤◌, ◌↔◌, ◌^◌, IsTrue, IsSome, IfOk, IfErr, IfSome, OnOk, OnErr, length, min, true, false};
 ghost use Rattle.std.specs.Bool.{OnTrue, OnFalse};
 ghost use Rattle.std.specs.FinSet as set;
 ghost use Rattle.vm_guest.specs.Boundary.{granted, ordered, released, revoked, serviced, spares_over, with_cap, with_min, with_shares, with_spare, without_spares};
@@ -6,18 +6,18 @@ ghost use Rattle.vm_guest.specs.Frames.{GivesOut, TakesBack, TakesBackSome, with
 ghost use Rattle.vm_guest.specs.Good.{HasNothingPosted};
 ghost use Rattle.vm_guest.specs.Memory.{bytes_of};
 ghost use Rattle.vm_guest.specs.Record.{reserve};
+ghost use Rattle.vm_guest.specs.Room.{room_for};
 ghost use Rattle.vm_guest.specs.Start.{started};
 ghost use Rattle.vm_guest.specs.State.{state_epoch, with_guest, IsBacked};
 ghost use Rattle.vm_guest.specs.View.{view_of};
 
 use crate::config::GuestSpec;
 use crate::epoch::run;
-use crate::memory::HeldMemory;
 use crate::parts::GuestParts;
 use crate::reads::PageRead;
 use crate::release::release;
+use crate::room::GuestRoom;
 use crate::service::serve;
-use crate::start::{Room, first_parts};
 use crate::view::{GuestView, view_of};
 use std::alloc::{AllocError, Global};
 use std::marker::Model;
@@ -29,7 +29,7 @@ use vm_frames::{Frame, Machine, PAGE_BYTES};
 /// A contract sees it as a `GuestState`: its record, which is plain data, how many pages its swap area has room for, the numbers
 /// of the frames that it holds, and whether it is prepared for an epoch. Pages and frames have 4096 bytes.
 ///
-/// Only [`Guest::start`], [`Guest::prepare`] and [`Guest::grow_swap`] take memory.
+/// Only [`GuestRoom::new`], [`Guest::start`], [`Guest::prepare`] and [`Guest::grow_swap`] take memory.
 pub struct Guest {
     parts: GuestParts,
     // There is room for the reads of an epoch.
@@ -67,22 +67,33 @@ impl Guest {
         ensures back { IfErr result (λ back. back ≡ spec) }
         ensures refused { OnErr result (machine.new ≡ machine.old) }
     {
-        let Ok(room) = Room::new(alloc, &spec) else {
+        let Ok(room) = GuestRoom::new(alloc, &spec) else {
             return Err(spec);
         };
-        match HeldMemory::new(alloc, spec.size, spec.min, spec.size - spec.min, machine) {
-            Ok(memory) => Ok(Guest {
-                parts: first_parts(spec, memory, room),
-                prepared: false,
-            }),
-            Err(_) => Err(spec),
+        Ok(Guest::start_in(spec, room, machine))
+    }
+
+    /// The same in a room that is for the specification. It takes no memory.
+    pub fn start_in(spec: GuestSpec, room: GuestRoom, machine: &mut Machine) -> Guest
+        requires room { room ≡ room_for spec }
+        requires enough { set.len machine.old.out + spec.min ≤ machine.old.total }
+        ensures record { result.guest ≡ started spec }
+        ensures capacity { result.capacity ≡ spec.size - spec.min }
+        ensures unprepared { result.prepared ≡ false }
+        ensures frames { GivesOut machine.old machine.new result.frames }
+        ensures count { set.len machine.new.out ≡ set.len machine.old.out + spec.min }
+    {
+        Guest {
+            parts: room.start(spec, machine),
+            prepared: false,
         }
     }
 
-    /// Makes room for the reads of an epoch. Where memory is refused, nothing changes.
+    /// Makes room for the reads of an epoch. Where memory is refused, which is only before the end of the trace, nothing changes.
     pub fn prepare(&mut self) -> Result<(), AllocError>
         ensures ok { OnOk result (self.new ≡ record self.old { prepared = true }) }
         ensures err { OnErr result (self.new ≡ self.old) }
+        ensures memory { OnErr result (self.old.guest.progress.position < length self.old.guest.config.trace) }
     {
         let left = self.parts.spec.trace.len() - self.parts.progress.position as usize;
         let room = left.min(self.parts.spec.quantum as usize);
@@ -211,16 +222,19 @@ impl Guest {
 
     /// Sets the guest's shares of the machine's memory (Waldspurger, OSDI 2002, section 5.1).
     pub fn set_shares(&mut self, shares: u32)
+        requires some { 1 ≤ shares }
+        requires few { shares ≤ 1000000 }
         ensures { self.new ≡ with_guest self.old (with_shares self.old.guest shares) }
     {
         self.parts.allotment.shares = shares;
     }
 
-    /// Makes room in the swap area for so many pages more. Where memory is refused, nothing changes.
+    /// Makes room in the swap area for so many pages more. Where memory is refused, which is only for some, nothing changes.
     pub fn grow_swap(&mut self, more: u32) -> Result<(), AllocError>
         requires { self.old.capacity + more < 2 ^ 32 }
         ensures ok { OnOk result (self.new ≡ record self.old { capacity = self.old.capacity + more }) }
         ensures err { OnErr result (self.new ≡ self.old) }
+        ensures memory { OnErr result (0 < more) }
     {
         self.parts.memory.grow_swap(more)
     }
@@ -240,6 +254,9 @@ impl Guest {
     /// What is shown of the guest.
     pub fn view(&self) -> GuestView
         ensures value { result ≡ view_of self.now.guest }
+
+        // The active fraction is at most the whole.
+        ensures active { result.active ≤ 65536 }
 
         // What is true of every guest.
         ensures backed { IsBacked self.now }

@@ -1,56 +1,104 @@
 -- What a boundary, which is what comes before an epoch, does to a host, and what it tells. In this order the devices are served
--- (OASIS VIRTIO 1.2, section 5.5.6), the spares above the targets come back, the lines are obeyed, and the guests get their orders.
--- No frame is granted yet, so that a guest has its minimum and no more: there is nothing to reclaim, nobody is blocked, and the
--- state stays as it is (Waldspurger, OSDI 2002, section 6.3).
-use Rattle.std.specs.Prelude.{ℕ, ◌+◌, List, [], ◌∷◌, Option, Some, None, false, map}
-use Rattle.std.specs.Option.{option_map}
-use Rattle.vm_guest.specs.Boundary.{ordered, serviced, spares_over, without_spares}
-use Rattle.vm_guest.specs.Record.{GuestRecord}
+-- (OASIS VIRTIO 1.2, section 5.5.6), the spares above the targets come back, the lines are obeyed, the state is found, targets fall
+-- (revocation), guests give up frames (paging), targets rise (grants), and the guests get their orders (Waldspurger, OSDI 2002,
+-- section 6.3).
+use Rattle.std.specs.Prelude.{◌≡◌, ℕ, List, take}
+use Rattle.vm_guest.specs.Boundary.{serviced}
+use Rattle.vm_plan.specs.State.{next_state_of}
 use Rattle.vm_host.specs.declared.boundary.Boundary.{Boundary}
-use Rattle.vm_host.specs.declared.phase.Phase.TheVariants.{Ready}
+use Rattle.vm_host.specs.declared.phase.Phase.TheVariants.{Ready, Failed}
+use Rattle.vm_host.specs.Answers.{AnswerValue}
 use Rattle.vm_host.specs.Commands.{after_lines, answers_to}
-use Rattle.vm_host.specs.World.{World}
+use Rattle.vm_pool.specs.Changes.{all_changed, with_orders as all_ordered, with_spares_back}
+use Rattle.vm_reclaim.specs.Policy.{Policy, policy_of}
+use Rattle.vm_reclaim.specs.Reclaim.{blocked_from, counts_of, grants_in, paged_from, pool_granted, pool_paged, pool_revoked, revocations_in, waits_in}
+use Rattle.vm_host.specs.World.{World, with_phase, with_pool}
 
--- each running guest's device is served
-abbrev pub all_serviced : List (Option GuestRecord) → List (Option GuestRecord)
-all_serviced guests = map (option_map serviced) guests
+-- ---- before the lines
 
--- each running guest gives back the spares above its target
-abbrev pub all_without_spares : List (Option GuestRecord) → List (Option GuestRecord)
-all_without_spares guests = map (option_map without_spares) guests
-
--- each running guest gets its orders; nobody is blocked
-abbrev pub all_ordered : List (Option GuestRecord) → List (Option GuestRecord)
-all_ordered guests = map (option_map (λ g. ordered g false)) guests
-
--- how many spares a guest gives back: none where none runs
-abbrev pub spares_of : Option GuestRecord → ℕ
-spares_of None = 0
-spares_of (Some g) = spares_over g
-
--- how many spares the guests give back together
-abbrev pub total_spares : List (Option GuestRecord) → ℕ
-total_spares [] = 0
-total_spares (guest ∷ guests) = spares_of guest + total_spares guests
-
--- the host once the guests gave back the spares above their targets
-abbrev pub with_spares_back : World → World
-with_spares_back w = record w { guests = all_without_spares w.guests; free = w.free + total_spares w.guests }
-
--- the host as the lines of a boundary find it
+-- the host as the lines of a boundary find it: each device is served, and the spares above the targets are back
 abbrev pub opened : World → World
-opened w = with_spares_back (record w { guests = all_serviced w.guests; phase = Ready })
+opened w = record w { pool = with_spares_back (all_changed serviced w.pool); phase = Ready }
 
--- the host after a boundary with these lines: commands, and then orders
+-- ---- after the lines
+
+-- the state that the free frames name
+abbrev pub with_state_found : Policy → World → World
+with_state_found policy w = record w { state = next_state_of w.state w.pool.free policy.thresholds }
+
+-- the same of a host
+abbrev pub revocations : Policy → World → List ℕ
+revocations policy w = revocations_in policy w.state w.pool
+
+abbrev pub with_revocations : Policy → World → World
+with_revocations policy w = with_pool w (pool_revoked policy w.state w.pool)
+
+abbrev pub page_counts : Policy → World → List ℕ
+page_counts policy w = counts_of w.state policy.page_rate w.pool.guests
+
+abbrev pub with_paging : Policy → World → World
+with_paging policy w = with_pool w (pool_paged policy w.state w.pool)
+
+abbrev pub grants : Policy → World → List ℕ
+grants policy w = grants_in policy w.state w.pool
+
+abbrev pub with_grants : Policy → World → World
+with_grants policy w = with_pool w (pool_granted policy w.state w.pool)
+
+-- each guest gets its orders for the epoch
+abbrev pub with_orders : World → World
+with_orders w = with_pool w (all_ordered (waits_in w.state) w.pool)
+
+-- ---- after the lines
+
+-- the host that its lines left, once all that follows is done
+abbrev pub finished : Policy → World → World
+finished policy w =
+    with_orders (with_grants policy (with_paging policy (with_revocations policy (with_state_found policy w))))
+
+-- ---- the whole
+
+-- the host once the lines are obeyed and the state is found
+abbrev pub settled : Policy → World → List (List ℕ) → World
+settled policy w lines = with_state_found policy (after_lines policy (opened w) lines)
+
+-- the host after a boundary with these lines, by a policy
+abbrev pub bounded_by : Policy → World → List (List ℕ) → World
+bounded_by policy w lines = finished policy (after_lines policy (opened w) lines)
+
+-- by that of its machine
 abbrev pub bounded : World → List (List ℕ) → World
-bounded w lines =
-    let after = after_lines (opened w) lines in
-    record after { guests = all_ordered after.guests; phase = Ready }
+bounded w lines = bounded_by (policy_of w.machine) w lines
 
--- what the boundary tells: the free frames are those that the state was found from
+-- ---- where memory is refused
+
+-- the host failed in a boundary with these lines: the devices are served, the spares are back, the first of the lines are obeyed,
+-- however many, and nothing else was done
+pub record FailsAfterSome (old : World) (lines : List (List ℕ)) (new : World) : Type 0 where
+  pub count : ℕ
+  pub is : new ≡ with_phase (after_lines (policy_of old.machine) (opened old) (take count lines)) Failed
+
+-- ---- what is told
+
+-- what is told of a host that its lines left, with these answers: the free frames are those that the state was found from
+abbrev pub told_after : Policy → World → List AnswerValue → Boundary
+told_after policy w answers =
+    let settled_world = with_state_found policy w in
+    let revoked_world = with_revocations policy settled_world in
+    let paged_world = with_paging policy revoked_world in
+    record {
+      answers = answers;
+      state = settled_world.state;
+      free = settled_world.pool.free;
+      revoked = revocations policy settled_world;
+      paged = paged_from 0 (page_counts policy revoked_world);
+      granted = grants policy paged_world;
+      blocked = blocked_from 0 (finished policy w).pool.guests;
+    }
+
+-- what the boundary tells
+abbrev pub boundary_by : Policy → World → List (List ℕ) → Boundary
+boundary_by policy w lines = told_after policy (after_lines policy (opened w) lines) (answers_to policy (opened w) lines)
+
 abbrev pub boundary_of : World → List (List ℕ) → Boundary
-boundary_of w lines = record {
-  answers = answers_to (opened w) lines;
-  state = w.state;
-  free = (after_lines (opened w) lines).free;
-}
+boundary_of w lines = boundary_by (policy_of w.machine) w lines

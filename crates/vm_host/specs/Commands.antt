@@ -1,68 +1,105 @@
--- What a command line does. The one command is `start NAME` (`virsh start`): it runs the domain from its configuration.
-use Rattle.std.specs.Prelude.{ℕ, ◌-◌, List, [], ◌∷◌, nat_lt, Option, Some, None, Result, Ok, Err, codes, drop, nat_eq, slice_get, slice_set, if◌then◌else◌}
-use Rattle.std.specs.List.{starts_with}
+-- What a command does that is obeyed: the memory commands of virsh, and `memshares`, which is this project's own.
+use Rattle.std.specs.Prelude.{◌≡◌, ℕ, ◌-◌, ◌*◌, List, [], ◌∷◌, Option, Some, None, Result, Ok, Err, take}
+use Rattle.vm_commands.specs.declared.command.Command.{Command}
+use Rattle.vm_commands.specs.declared.command.Command.TheVariants.{Start, Destroy, SetMemory, SetMinimum, SetShares, ShowStatistics}
+use Rattle.vm_guest.specs.Boundary.{with_cap, with_shares}
 use Rattle.vm_guest.specs.Record.{GuestRecord}
-use Rattle.vm_guest.specs.Start.{started}
+use Rattle.vm_host.specs.declared.boundary.DomainStatistics.{DomainStatistics}
 use Rattle.vm_host.specs.declared.boundary.Outcome.{Outcome}
-use Rattle.vm_host.specs.declared.boundary.Outcome.TheVariants.{Done, Refused}
+use Rattle.vm_host.specs.declared.boundary.Outcome.TheVariants.{Done, Refused, Shown}
 use Rattle.vm_host.specs.declared.boundary.Refusal.{Refusal}
-use Rattle.vm_host.specs.declared.boundary.Refusal.TheVariants.{NoSuchDomain, AlreadyRunning, BadLine, NoMemory}
 use Rattle.vm_host.specs.Answers.{AnswerValue}
-use Rattle.vm_host.specs.Domains.{Domain, position_of}
-use Rattle.vm_host.specs.World.{World, guest_at}
+use Rattle.vm_host.specs.Decisions.{Admitted, decision_on_line}
+use Rattle.vm_pool.specs.Changes.{changed, started_at, stopped_at, with_min_at}
+use Rattle.vm_pool.specs.Guests.{guest_in}
+use Rattle.vm_pool.specs.Pool.{PoolView}
+use Rattle.vm_tax.specs.Ratio.{Tax}
+use Rattle.vm_reclaim.specs.Policy.{Policy}
+use Rattle.vm_reclaim.specs.Room.{lacking_at, needed_to_start, raise_to, room_made, taken_early}
+use Rattle.vm_host.specs.World.{World, with_pool}
 
--- what stands behind `start `; a line that begins otherwise is no command
-abbrev pub word_after_start : List ℕ → Option (List ℕ)
-word_after_start line = if starts_with nat_eq line (codes "start ") then Some (drop 6 line) else None
+-- ---- room
 
--- whether a domain can start: it may not run yet, and its minimum has to be free (admission control: Waldspurger, OSDI 2002,
--- section 6.2)
-abbrev pub start_of : World → ℕ → Option GuestRecord → Option Domain → Result ℕ Refusal
-start_of w position guest None = Err NoSuchDomain
-start_of w position None (Some domain) = if nat_lt w.free domain.config.min then Err NoMemory else Ok position
-start_of w position (Some g) (Some domain) = Err AlreadyRunning
+-- the guests that a command takes a page from, in order, one for each page
+abbrev pub revocations_by : Tax → PoolView → ℕ → Command → List ℕ
+revocations_by tax pool position (Start domain) = taken_early tax None (needed_to_start pool position) pool
+revocations_by tax pool position (SetMinimum domain least) =
+    taken_early tax (raise_to position least) (lacking_at pool position least) pool
+revocations_by tax pool position (Destroy domain) = []
+revocations_by tax pool position (SetMemory domain cap) = []
+revocations_by tax pool position (SetShares domain shares) = []
+revocations_by tax pool position (ShowStatistics domain) = []
 
--- whether the domain at a position can start, where there is one
-abbrev pub start_at : World → Option ℕ → Result ℕ Refusal
-start_at w None = Err NoSuchDomain
-start_at w (Some position) = start_of w position (guest_at w position) (slice_get w.domains position)
+-- ---- effects
 
--- whether the domain with a name can start, where the line has one
-abbrev pub start_by : World → Option (List ℕ) → Result ℕ Refusal
-start_by w None = Err BadLine
-start_by w (Some name) = start_at w (position_of name w.domains)
+-- the frames after a command
+abbrev pub obeyed_by : Tax → PoolView → ℕ → Command → PoolView
+obeyed_by tax pool position (Start domain) = started_at (room_made tax None (needed_to_start pool position) pool) position
+obeyed_by tax pool position (Destroy domain) = stopped_at pool position
+obeyed_by tax pool position (SetMemory domain cap) = changed (λ g. with_cap g cap) pool position
+obeyed_by tax pool position (SetMinimum domain least) =
+    with_min_at least (room_made tax (raise_to position least) (lacking_at pool position least) pool) position
+obeyed_by tax pool position (SetShares domain shares) = changed (λ g. with_shares g shares) pool position
+obeyed_by tax pool position (ShowStatistics domain) = pool
 
--- the position of the domain that a line starts, or why it is refused
-abbrev pub decision_on : World → List ℕ → Result ℕ Refusal
-decision_on w line = start_by w (word_after_start line)
+-- ---- answers
 
--- the guest of a domain starts at its position with its minimum of frames
-abbrev pub with_started : World → ℕ → Option Domain → World
-with_started w position None = w
-with_started w position (Some domain) = record w {
-  guests = slice_set w.guests position (Some (started domain.config));
-  free = w.free - domain.config.min;
+-- what virsh dommemstat prints; a page is 4 KiB
+abbrev pub statistics_of : GuestRecord → DomainStatistics
+statistics_of g = record {
+  actual = (g.config.size - g.device.actual) * 4;
+  rss = g.memory.held * 4;
+  stats = g.device.stats;
 }
 
--- a refused command changes nothing
-abbrev pub decided : World → Result ℕ Refusal → World
-decided w (Ok position) = with_started w position (slice_get w.domains position)
-decided w (Err refusal) = w
+abbrev pub shown : Option GuestRecord → Outcome
+shown None = Done
+shown (Some g) = Shown (statistics_of g)
 
-abbrev pub outcome_of : Result ℕ Refusal → Outcome
-outcome_of (Ok position) = Done
-outcome_of (Err refusal) = Refused refusal
+abbrev pub outcome_of : PoolView → ℕ → Command → Outcome
+outcome_of pool position (ShowStatistics domain) = shown (guest_in pool.guests position)
+outcome_of pool position (Start domain) = Done
+outcome_of pool position (Destroy domain) = Done
+outcome_of pool position (SetMemory domain cap) = Done
+outcome_of pool position (SetMinimum domain least) = Done
+outcome_of pool position (SetShares domain shares) = Done
+
+-- ---- lines
+
+-- a refused command changes nothing
+abbrev pub decided : Policy → World → Result Admitted Refusal → World
+decided policy w (Ok admitted) = with_pool w (obeyed_by policy.tax w.pool admitted.position admitted.command)
+decided policy w (Err refusal) = w
+
+-- a refused command takes nothing from anybody
+abbrev pub revocations_to : Policy → World → Result Admitted Refusal → List ℕ
+revocations_to policy w (Ok admitted) = revocations_by policy.tax w.pool admitted.position admitted.command
+revocations_to policy w (Err refusal) = []
+
+abbrev pub outcome_to : World → Result Admitted Refusal → Outcome
+outcome_to w (Ok admitted) = outcome_of w.pool admitted.position admitted.command
+outcome_to w (Err refusal) = Refused refusal
+
+abbrev pub answer_to : Policy → World → List ℕ → Result Admitted Refusal → AnswerValue
+answer_to policy w line decision =
+    record { line = line; revocations = revocations_to policy w decision; outcome = outcome_to w decision }
 
 -- the host after a line
-abbrev pub after_line : World → List ℕ → World
-after_line w line = decided w (decision_on w line)
+abbrev pub after_line : Policy → World → List ℕ → World
+after_line policy w line = decided policy w (decision_on_line w line)
 
 -- the host after lines, one after the other
-abbrev pub after_lines : World → List (List ℕ) → World
-after_lines w [] = w
-after_lines w (line ∷ lines) = after_lines (after_line w line) lines
+abbrev pub after_lines : Policy → World → List (List ℕ) → World
+after_lines policy w [] = w
+after_lines policy w (line ∷ lines) = after_lines policy (after_line policy w line) lines
+
+-- the host after the first of these lines, however many
+pub record IsAfterSome (policy : Policy) (w : World) (lines : List (List ℕ)) (new : World) : Type 0 where
+  pub count : ℕ
+  pub is : new ≡ after_lines policy w (take count lines)
 
 -- the answer to each line
-abbrev pub answers_to : World → List (List ℕ) → List AnswerValue
-answers_to w [] = []
-answers_to w (line ∷ lines) = record { line = line; outcome = outcome_of (decision_on w line) } ∷ answers_to (after_line w line) lines
+abbrev pub answers_to : Policy → World → List (List ℕ) → List AnswerValue
+answers_to policy w [] = []
+answers_to policy w (line ∷ lines) =
+    answer_to policy w line (decision_on_line w line) ∷ answers_to policy (after_line policy w line) lines

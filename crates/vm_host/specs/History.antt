@@ -1,45 +1,39 @@
 -- What happens to each guest of a host, in order.
-use Rattle.std.specs.Prelude.{ℕ, List, [], ◌∷◌, ◌++◌, Option, Some, None, Result, Ok, Err, slice_set, slice_index_or}
-use Rattle.vm_guest.specs.Happenings.{Happening, Started, epoch_happenings, service_happenings}
-use Rattle.vm_guest.specs.Record.{GuestRecord}
+use Rattle.std.specs.Prelude.{ℕ, List, [], ◌∷◌, ◌++◌, Result, Ok, Err, slice_set}
+use Rattle.vm_commands.specs.declared.command.Command.{Command}
+use Rattle.vm_commands.specs.declared.command.Command.TheVariants.{Start, Destroy, SetMemory, SetMinimum, SetShares, ShowStatistics}
+use Rattle.vm_guest.specs.Happenings.{Started, epoch_happenings, service_happenings}
 use Rattle.vm_host.specs.declared.boundary.Refusal.{Refusal}
-use Rattle.vm_host.specs.Commands.{decision_on, after_line}
+use Rattle.vm_host.specs.Commands.{after_line}
+use Rattle.vm_host.specs.Decisions.{Admitted, decision_on_line}
+use Rattle.vm_pool.specs.Guests.{Guests}
+use Rattle.vm_reclaim.specs.Policy.{Policy}
 use Rattle.vm_host.specs.World.{World}
-
--- by position in the list of domains: the happenings of the guest there
-abbrev pub History : Type 0
-History = List (List Happening)
-
-abbrev pub happenings_at : History → ℕ → List Happening
-happenings_at h position = slice_index_or h position []
-
-abbrev pub happenings_in_service : Option GuestRecord → List Happening
-happenings_in_service None = []
-happenings_in_service (Some g) = service_happenings g
+use Rattle.vm_sound.specs.Written.{History, happenings_at, with_happenings}
 
 -- the history once a boundary has served these guests, which comes before its lines
-abbrev pub history_after_service : List (Option GuestRecord) → History → History
-history_after_service [] h = h
-history_after_service (guest ∷ guests) [] = []
-history_after_service (guest ∷ guests) (happenings ∷ h) =
-    (happenings ++ happenings_in_service guest) ∷ history_after_service guests h
+abbrev pub history_after_service : Guests → History → History
+history_after_service guests h = with_happenings service_happenings guests h
 
--- a guest that starts is told of it
-abbrev pub history_of_decision : History → Result ℕ Refusal → History
-history_of_decision h (Ok position) = slice_set h position (happenings_at h position ++ Started ∷ [])
+-- a guest that starts is told of it; no other command is a happening
+abbrev pub history_of_command : History → ℕ → Command → History
+history_of_command h position (Start domain) = slice_set h position (happenings_at h position ++ Started ∷ [])
+history_of_command h position (Destroy domain) = h
+history_of_command h position (SetMemory domain cap) = h
+history_of_command h position (SetMinimum domain least) = h
+history_of_command h position (SetShares domain shares) = h
+history_of_command h position (ShowStatistics domain) = h
+
+abbrev pub history_of_decision : History → Result Admitted Refusal → History
+history_of_decision h (Ok admitted) = history_of_command h admitted.position admitted.command
 history_of_decision h (Err refusal) = h
 
 -- the history after the lines of a boundary
-abbrev pub history_after_lines : World → History → List (List ℕ) → History
-history_after_lines w h [] = h
-history_after_lines w h (line ∷ lines) = history_after_lines (after_line w line) (history_of_decision h (decision_on w line)) lines
-
-abbrev pub happenings_in_epoch : Option GuestRecord → List Happening
-happenings_in_epoch None = []
-happenings_in_epoch (Some g) = epoch_happenings g
+abbrev pub history_after_lines : Policy → World → History → List (List ℕ) → History
+history_after_lines policy w h [] = h
+history_after_lines policy w h (line ∷ lines) =
+    history_after_lines policy (after_line policy w line) (history_of_decision h (decision_on_line w line)) lines
 
 -- the history after an epoch that begins with these guests
-abbrev pub history_after_epoch : List (Option GuestRecord) → History → History
-history_after_epoch [] h = h
-history_after_epoch (guest ∷ guests) [] = []
-history_after_epoch (guest ∷ guests) (happenings ∷ h) = (happenings ++ happenings_in_epoch guest) ∷ history_after_epoch guests h
+abbrev pub history_after_epoch : Guests → History → History
+history_after_epoch guests h = with_happenings epoch_happenings guests h

@@ -1,8 +1,10 @@
 //! What a boundary tells.
 ghost use Rattle.std.specs.Prelude.{◌≡◌, string_bytes};
 
-use crate::state::State;
 use std::marker::Model;
+use vm_guest::Stats;
+use vm_plan::{Plan, State};
+use vm_reclaim::{Blocked, Paging};
 
 /// Why a command was refused. A refused command changes nothing.
 #[derive(Clone, Copy, Debug, PartialEq, Eq)]
@@ -11,10 +13,31 @@ pub enum Refusal {
     NoSuchDomain,
     /// The domain runs already.
     AlreadyRunning,
+    /// The domain does not run.
+    NotRunning,
     /// The line is no command.
     BadLine,
-    /// The guest's minimum is more than the free frames (admission control: Waldspurger, OSDI 2002, section 6.2).
+    /// The size or the number of the line can't be read.
+    BadSize,
+    /// The cap would be below the minimum.
+    BelowMinimum,
+    /// The cap would be above the size, or the minimum above the cap.
+    AboveMaximum,
+    /// The machine has too few frames for what would be promised (admission control: Waldspurger, OSDI 2002, section 6.2).
     NoMemory,
+    /// It has too little swap for that.
+    NoSwap,
+}
+
+/// What `virsh dommemstat` prints of a guest, in KiB where it is memory.
+#[derive(Clone, Copy, Debug, PartialEq, Eq)]
+pub struct DomainStatistics {
+    /// The memory that the balloon leaves the guest.
+    pub actual: u64,
+    /// The memory that the guest holds.
+    pub rss: u64,
+    /// What the guest's driver told last.
+    pub stats: Stats,
 }
 
 /// What became of a command.
@@ -24,12 +47,15 @@ pub enum Outcome {
     Done,
     /// It was not.
     Refused(Refusal),
+    /// It was obeyed, and this is what it asked for.
+    Shown(DomainStatistics),
 }
 
 /// The answer to a command line.
 #[derive(Debug, Drop)]
 pub struct Answer {
     line: String,
+    revocations: Plan,
     outcome: Outcome,
 }
 
@@ -39,14 +65,18 @@ impl Model for Answer {
 
     ghost Value = { AnswerValue };
 
-    ghost view = { λ a. record { line = string_bytes a.line; outcome = a.outcome } };
+    ghost view = { λ a. record { line = string_bytes a.line; revocations = a.revocations; outcome = a.outcome } };
 }
 
 impl Answer {
-    pub(crate) fn new(line: String, outcome: Outcome) -> Self
-        ensures { result ≡ record { line = string_bytes line; outcome = outcome } }
+    pub(crate) fn new(line: String, revocations: Plan, outcome: Outcome) -> Self
+        ensures { result ≡ record { line = string_bytes line; revocations = revocations; outcome = outcome } }
     {
-        Answer { line, outcome }
+        Answer {
+            line,
+            revocations,
+            outcome,
+        }
     }
 
     /// The line as it was given.
@@ -54,6 +84,13 @@ impl Answer {
         ensures { result.now ≡ self.now.line }
     {
         self.line.as_str()
+    }
+
+    /// The positions of the guests whose targets fell to make room for it, one for each page, in order.
+    pub fn revocations(&self) -> &Plan
+        ensures { result.now ≡ self.now.revocations }
+    {
+        &self.revocations
     }
 
     /// What became of it.
@@ -101,6 +138,14 @@ pub struct Boundary {
     pub answers: Answers,
     /// The state that it leaves.
     pub state: State,
-    /// How many frames are free after its lines.
+    /// How many frames were free when the state was found.
     pub free: u32,
+    /// The positions of the guests whose targets fell, one for each page, in order.
+    pub revoked: Plan,
+    /// The guests that gave up frames above their targets, in order.
+    pub paged: Paging,
+    /// The positions of the guests whose targets rose, one for each page, in order.
+    pub granted: Plan,
+    /// The positions of the guests that are blocked, in order.
+    pub blocked: Blocked,
 }

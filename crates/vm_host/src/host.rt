@@ -1,28 +1,34 @@
-ghost use Rattle.std.specs.Prelude.{◌≡◌, ◌≢◌, ◌≤◌, ◌↔◌, [], map, vec_len, vec_capacity, IfOk, IfErr, OnOk, OnErr, IsTrue, Err, length, slice_get};
+ghost use Rattle.std.specs.Prelude.{◌≡◌, ◌≢◌, ◌<◌, ◌≤◌, ◌↔◌, IfErr, IfOk, IsTrue, Err, OnErr, OnOk, length, slice_get};
 ghost use Rattle.std.specs.Option.{option_map};
-ghost use Rattle.vm_host.specs.declared.host.HostError.TheVariants.{Memory as NoMemory, Failed as HasFailed};
-ghost use Rattle.vm_host.specs.declared.phase.Phase.TheVariants.{Waiting, Failed};
-ghost use Rattle.vm_host.specs.declared.slot.Slot.TheVariants.{Stopped};
-ghost use Rattle.vm_host.specs.Boundary.{bounded, boundary_of};
-ghost use Rattle.vm_host.specs.Domains.{names_of, position_of};
-ghost use Rattle.vm_host.specs.Epoch.{after_epoch};
-ghost use Rattle.vm_host.specs.Parts.{world_of, IsTied};
-ghost use Rattle.vm_host.specs.Readers.{overhead_frames, page_at, peeked, Peeks};
-ghost use Rattle.vm_host.specs.World.{first_world, guest_at, Conserves, FailsFrom};
+ghost use Rattle.vm_domains.specs.Domains.{place_of};
+ghost use Rattle.vm_guest.specs.Good.{IsGood};
 ghost use Rattle.vm_guest.specs.View.{view_of};
+ghost use Rattle.vm_pool.specs.Pool.{running_count, EachGuest, Conserves as AddsUp};
+ghost use Rattle.vm_pool.specs.Readers.{Peeks};
+ghost use Rattle.vm_reclaim.specs.Policy.{policy_of};
+ghost use Rattle.vm_plan.specs.declared.state.State.TheVariants.{High};
+ghost use Rattle.vm_host.specs.declared.host.HostError.TheVariants.{Memory as NoMemory, Failed as HasFailed};
+ghost use Rattle.vm_host.specs.declared.phase.Phase.TheVariants.{Waiting, Ready, Failed};
+ghost use Rattle.vm_host.specs.Boundary.{bounded, boundary_of, FailsAfterSome};
+ghost use Rattle.vm_host.specs.Epoch.{after_epoch};
+ghost use Rattle.vm_host.specs.Fairness.{IsFairBoundary};
+ghost use Rattle.vm_host.specs.Parts.{world_of};
+ghost use Rattle.vm_host.specs.Readers.{overhead_frames, page_at, peeked};
+ghost use Rattle.vm_host.specs.World.{first_world, guest_at, with_phase, Conserves, FailsFrom};
 
-use crate::boundary::{Answers, Boundary};
-use crate::domains::Domains;
+use crate::boundary::Boundary;
 use crate::lines::Lines;
-use crate::machine::MachineSpec;
-use crate::parts::{Parts, obey_all, open_boundary};
+use crate::parts::Parts;
 use crate::phase::Phase;
-use crate::slot::{Slot, close_all, guest_at, order_all, prepare_all, run_all};
-use crate::state::State;
+use crate::stages::bound;
 use std::alloc::Global;
 use std::marker::Model;
-use vm_frames::{Machine, PAGE_BYTES};
-use vm_guest::{GuestSpec, GuestView, PageRead};
+use std::thread::Threads;
+use vm_admission::Books;
+use vm_domains::{Domains, MachineSpec, Names};
+use vm_frames::PAGE_BYTES;
+use vm_plan::State;
+use vm_pool::{Gate, GuestView, PageRead, Pool};
 
 /// Why a host did not go on. It is looked at in this order: `Failed`, then `Memory`.
 #[derive(Clone, Copy, Debug, PartialEq, Eq)]
@@ -39,6 +45,7 @@ pub enum HostError {
 /// were added, counted from 0.
 pub struct Host {
     parts: Parts,
+    books: Books,
 }
 
 impl Model for Host {
@@ -49,7 +56,7 @@ impl Model for Host {
 
     ghost view = { λ h. world_of h.parts };
 
-    ghost invariant = { λ h. IsTied h.parts };
+    ghost invariant = { λ h. IsTied h.parts h.books };
 }
 
 impl Host {
@@ -59,85 +66,95 @@ impl Host {
         ensures first { IfOk result (λ host. host ≡ first_world spec domains) }
         ensures back { IfErr result (λ back. back ≡ domains) }
     {
-        let Ok(slots) = Vec::with_capacity(alloc, domains.len()) else {
-            return Err(domains);
-        };
-        let Ok(machine) = Machine::new(alloc, spec.frames) else {
-            slots.destroy_empty();
-            return Err(domains);
-        };
-        let Domains { names, specs } = domains;
-        let slots = stopped(slots, specs);
-        Ok(Host {
-            parts: Parts {
-                spec,
-                machine,
-                names,
-                slots,
-                state: State::High,
-                phase: Phase::Waiting,
-            },
-        })
+        let (names, specs) = domains.into_parts();
+        match Pool::new(alloc, spec.frames, spec.overhead, specs) {
+            Ok(pool) => Ok(Host {
+                parts: first_parts(spec, names, pool),
+                books: Books::new(spec.frames, spec.swap, spec.overhead),
+            }),
+            Err(specs) => Err(Domains::from_parts(names, specs)),
+        }
     }
 
     /// What comes before an epoch, in this order:
     ///
     /// - The balloon device of each running guest is served (OASIS VIRTIO 1.2, section 5.5.6).
-    /// - Each running guest gives back the spares above its target.
-    /// - The lines are obeyed in order.
-    /// - Each running guest gets its orders, which end the reads of the last epoch. Nobody is blocked.
+    /// - Each running guest gives back the spare frames above its target.
+    /// - The lines are obeyed in order. A refused one changes nothing.
+    /// - The state of memory is found from the free frames (Waldspurger, OSDI 2002, section 6.3).
+    /// - Below `High` targets fall, each time that of the guest above its minimum whose adjusted ratio of shares to pages is
+    ///   least (min-funding revocation, sections 5.1 and 5.2), until the goal is met or no guest is above its minimum.
+    /// - Guests give up frames above their targets (paging, section 6.3), spares first.
+    /// - Targets rise for guests that wait for pages.
+    /// - Each running guest gets its orders, which end the reads of the last epoch. In `Low`, one above its target is blocked.
     ///
-    /// It tells what became of each line, and the free frames after all of them.
+    /// It tells what became of each line, and what it did.
     ///
-    /// `start NAME` runs the domain from its configuration (`virsh start`). Refusals come in the order `BadLine`, `NoSuchDomain`,
-    /// `AlreadyRunning`, `NoMemory`, and change nothing.
+    /// The commands are `start`, `destroy`, `setmem`, `memtune --min-guarantee` and `dommemstat` of `virsh`, and `memshares`.
+    /// A line is read first (`BadLine`, `BadSize`); then come the refusals `NoSuchDomain`, `AlreadyRunning`, `NotRunning`,
+    /// `BelowMinimum`, `AboveMaximum`, `NoMemory` and `NoSwap`, as far as the command has them. The last two come exactly where
+    /// the machine couldn't cover all minimums with their overhead, or its swap area the rest of each guest (section 6.2): a
+    /// guest that was admitted always gets its minimum, for which others give up what they hold above their targets, and then
+    /// lose pages of them as above.
     ///
-    /// `Failed` comes exactly from a host that has failed, which stays as it is. `Memory` leaves a failed host, whose frames
-    /// still add up.
+    /// `Failed` comes exactly from a host that has failed, which stays as it is. `Memory` leaves a failed host: that after some of
+    /// the lines, from the first one on, each of them obeyed as a whole, and with nothing done that comes after the lines. Its
+    /// machine and its domains are as before, and its frames add up.
     pub fn boundary(&mut self, alloc: Global, lines: &Lines) -> Result<Boundary, HostError>
         ensures done { OnOk result (self.new ≡ bounded self.old lines.now) }
         ensures told { IfOk result (λ told. told ≡ boundary_of self.old lines.now) }
+        ensures ready { OnOk result (self.new.phase ≡ Ready) }
         ensures failed { (result ≡ Err HasFailed) ↔ (self.old.phase ≡ Failed) }
         ensures unchanged { result ≡ Err HasFailed → self.new ≡ self.old }
-        ensures memory { result ≡ Err NoMemory → FailsFrom self.old self.new }
+        ensures memory { result ≡ Err NoMemory → FailsAfterSome self.old lines.now self.new }
+        ensures kept { result ≡ Err NoMemory → FailsFrom self.old self.new }
         ensures conserves { Conserves self.new }
+
+        // What it is for.
+        ensures good { OnOk result (EachGuest IsGood self.new.pool) }
+        ensures fair { OnOk result (IsFairBoundary (policy_of self.old.machine) self.old lines.now) }
     {
         if self.parts.phase == Phase::Failed {
             return Err(HostError::Failed);
         }
-        open_boundary(&mut self.parts);
-        let Ok(answers) = obey_all(alloc, &mut self.parts, lines.as_slice()) else {
-            self.parts.phase = Phase::Failed;
-            return Err(HostError::Memory);
-        };
-        let free = self.parts.machine.free();
-        order_all(&mut self.parts.slots);
-        Ok(Boundary {
-            answers: Answers::new(answers),
-            state: self.parts.state,
-            free,
-        })
+        match bound(alloc, &mut self.parts, &mut self.books, lines.as_slice()) {
+            Ok(told) => Ok(told),
+            Err(_) => {
+                fail(&mut self.parts);
+                Err(HostError::Memory)
+            }
+        }
     }
 
-    /// Each running guest runs its epoch, in the order of the domains. It asks for a boundary since the last one, or for a host
-    /// that has failed, which `ready` tells.
+    /// Each running guest runs its epoch, on at most `workers` threads, the caller's among them. What comes of it is the same as
+    /// if they ran in the order of the domains. Running guests are numbered in that order, from 0; a thread enters the gate with a
+    /// guest's number before it runs the guest, and leaves it after.
     ///
-    /// `Failed` comes exactly from a host that has failed. `Memory` comes before any guest runs. Both leave the host as it is, so
-    /// that after `Memory` the epoch may be asked for again.
-    pub fn epoch(&mut self) -> Result<(), HostError>
-        requires { self.old.phase ≢ Waiting }
+    /// It asks for a boundary since the last epoch, or for a host that has failed, which `ready` tells. `Failed` comes exactly from
+    /// a host that has failed. `Memory` comes before any guest runs its epoch, and only where there are guests that run. Both leave the
+    /// host as it is, so that after `Memory` the epoch may be asked for again.
+    pub fn epoch<R: Threads + Sync, G: Gate + Sync>(
+        &mut self,
+        rt: &R,
+        alloc: Global,
+        gate: &G,
+        workers: u32,
+    ) -> Result<(), HostError>
+        requires workers { (0 < workers) × (workers ≤ 64) }
+        requires ready { self.old.phase ≢ Waiting }
         ensures done { OnOk result (self.new ≡ after_epoch self.old) }
         ensures failed { (result ≡ Err HasFailed) ↔ (self.old.phase ≡ Failed) }
         ensures unchanged { OnErr result (self.new ≡ self.old) }
+        ensures memory { result ≡ Err NoMemory → 0 < running_count self.old.pool.guests }
         ensures conserves { Conserves self.new }
+        ensures good { OnOk result (EachGuest IsGood self.new.pool) }
     {
         if self.parts.phase == Phase::Failed {
             return Err(HostError::Failed);
         }
-        if prepare_all(&mut self.parts.slots).is_err() {
+        if self.parts.pool.epoch(rt, alloc, gate, workers).is_err() {
             return Err(HostError::Memory);
         }
-        run_all(&mut self.parts.slots);
         self.parts.phase = Phase::Waiting;
         Ok(())
     }
@@ -156,19 +173,19 @@ impl Host {
         self.parts.state
     }
 
-    /// How many frames nobody holds. With those that the guests hold they add up to the machine, always.
+    /// How many frames are free. With those that the guests hold and those in overhead they add up to the machine, always.
     pub fn free(&self) -> u32
-        ensures free { result ≡ self.now.free }
+        ensures free { result ≡ self.now.pool.free }
         ensures conserves { Conserves self.now }
     {
-        self.parts.machine.free()
+        self.parts.pool.free()
     }
 
-    /// How many frames are neither free nor held by a guest: none, since nothing is set aside for the host's own tables.
+    /// How many frames are set aside for the tables that the host keeps of its running guests (Waldspurger, OSDI 2002, section 6.2).
     pub fn overhead_frames(&self) -> u32
         ensures { result ≡ overhead_frames self.now }
     {
-        0
+        self.parts.pool.overhead_frames()
     }
 
     /// How many frames the machine has.
@@ -180,21 +197,21 @@ impl Host {
 
     /// How many domains there are, whether they run or not.
     pub fn len(&self) -> usize
-        ensures { result ≡ length self.now.domains }
+        ensures { result ≡ length self.now.names }
     {
-        self.parts.slots.len()
+        self.parts.names.len()
     }
 
     /// The name of the domain at a position, if there is one.
     pub fn name(&self, position: usize) -> Option<&str>
-        ensures { option_map (λ s. s.now) result ≡ slice_get (names_of self.now.domains) position }
+        ensures { option_map (λ s. s.now) result ≡ slice_get self.now.names position }
     {
         self.parts.names.get(position)
     }
 
     /// The position of the domain with a name, if there is one.
     pub fn position(&self, name: &str) -> Option<usize>
-        ensures { result ≡ position_of name.now self.now.domains }
+        ensures { result ≡ place_of name.now self.now.names }
     {
         self.parts.names.position(name)
     }
@@ -204,16 +221,14 @@ impl Host {
     pub fn view(&self, position: usize) -> Option<GuestView>
         ensures { result ≡ option_map view_of (guest_at self.now position) }
     {
-        let guest = guest_at(&self.parts.slots, position)?;
-        Some(guest.view())
+        self.parts.pool.view(position)
     }
 
     /// The reads of the last epoch of the guest at a position, in order, if one runs there. After a boundary there are none.
     pub fn reads(&self, position: usize) -> Option<&[PageRead]>
         ensures { option_map (λ s. s.now) result ≡ option_map (λ g. g.reads) (guest_at self.now position) }
     {
-        let guest = guest_at(&self.parts.slots, position)?;
-        Some(guest.reads())
+        self.parts.pool.reads(position)
     }
 
     /// Copies a page of 4096 bytes of guest memory, wherever it is. It answers false, and copies nothing, exactly where no
@@ -231,43 +246,46 @@ impl Host {
     /// Ends a host, a failed one too. Its guests are stopped, and all frames go back to the machine, which can be closed only
     /// then.
     pub fn close(self) {
-        let Host { parts } = self;
+        let Host { parts, books: _ } = self;
         let Parts {
             spec: _,
-            mut machine,
             names: _,
-            slots,
+            pool,
             state: _,
             phase: _,
         } = parts;
-        close_all(slots, &mut machine);
-        machine.close();
+        pool.close();
+    }
+}
+
+// A host before its first boundary.
+fn first_parts(spec: MachineSpec, names: Names, pool: Pool) -> Parts
+    ensures { world_of result ≡ record { machine = spec; names = names; pool = pool; state = High; phase = Waiting } }
+{
+    Parts {
+        spec,
+        names,
+        pool,
+        state: State::High,
+        phase: Phase::Waiting,
     }
 }
 
 // Copies a page of the guest with a name, if there is one.
 fn peek_at(parts: &Parts, name: &str, page: u32, bytes: &mut [u8; PAGE_BYTES]) -> bool
-    requires { IsTied parts.now }
-    ensures { Peeks (page_at (world_of parts.now) (position_of name.now (world_of parts.now).domains) page) result bytes.old bytes.new }
+    ensures { Peeks (page_at (world_of parts.now) (place_of name.now parts.now.names) page) result bytes.old bytes.new }
 {
-    let Some(position) = parts.names.position(name) else {
-        return false;
-    };
-    let Some(guest) = guest_at(&parts.slots, position) else {
-        return false;
-    };
-    guest.peek(page, bytes)
+    match parts.names.position(name) {
+        Some(position) => parts.pool.peek(position, page, bytes),
+        None => false,
+    }
 }
 
-// A slot with each specification, put into the room that is there for them.
-fn stopped(slots: Vec<Slot>, specs: Vec<GuestSpec>) -> Vec<Slot>
-    requires none { slots.items ≡ [] }
-    requires room { vec_len specs ≤ vec_capacity slots }
-    ensures { result.items ≡ map Stopped specs.items }
+// Memory was refused in a boundary. However many lines were obeyed, no frame is lost.
+fn fail(parts: &mut Parts)
+    ensures failed { world_of parts.new ≡ with_phase (world_of parts.old) Failed }
+    ensures adds_up { AddsUp parts.new.pool }
 {
-    let mut slots = slots;
-    for spec in specs {
-        slots.push_reserved(Slot::Stopped(spec));
-    }
-    slots
+    prove!(parts.pool.free() <= parts.pool.frames());
+    parts.phase = Phase::Failed;
 }

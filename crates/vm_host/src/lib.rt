@@ -1,43 +1,49 @@
 //! A host: its machine, its domains, and the guests that run on it.
 //!
 //! A [`Host`] is made of a [`MachineSpec`] and of the [`Domains`] that it may run, as libvirt's `virsh` calls them. Time goes in
-//! epochs. [`Host::boundary`] serves the balloon device of each running guest (OASIS VIRTIO 1.2, section 5.5.6), takes back the
-//! spare frames above its target, obeys command [`Lines`] in order, and gives each running guest its orders; [`Host::epoch`]
-//! then lets each running guest run, in the order of the domains. A boundary may follow another one, and an epoch needs one.
+//! epochs. [`Host::boundary`] comes before each: it serves the balloon devices (OASIS VIRTIO 1.2, section 5.5.6), obeys command
+//! [`Lines`], and divides the machine's frames among the guests by shares, idleness and demand (Waldspurger, "Memory Resource
+//! Management in VMware ESX Server", OSDI 2002). [`Host::epoch`] then lets each running guest run, on as many threads as the
+//! caller asks for. A boundary may follow another one, and an epoch needs one.
 //!
-//! A guest starts with its minimum of frames, which may be below its size. It keeps just these: no frame is granted beyond a
-//! minimum, none is reclaimed, and no guest is blocked. The swap area that it may need is not counted by the host.
+//! **Admission** (section 6.2). The books hold what the running guests were promised: to each its minimum of frames and its
+//! overhead, and swap for the rest of its memory. A command is admitted exactly where the machine covers its promises with it,
+//! and an admitted guest always gets its minimum: room is made for it at once. A refused command changes nothing.
 //!
-//! The one command is `start NAME` (`virsh start`). It is admitted exactly where the guest's minimum is free (Waldspurger,
-//! "Memory Resource Management in VMware ESX Server", OSDI 2002, section 6.2). A refused command changes nothing.
+//! **Whose memory is taken** (sections 5.1 and 5.2). Each revocation takes a page from a guest above its minimum whose adjusted
+//! ratio of shares to pages is least, where pages that a guest leaves idle count for more.
 //!
-//! Where memory for the host itself is refused in a boundary, some of its lines may be done: the host has then failed. It can
-//! still be read and closed, shows no guest memory, and its frames still add up. Where memory is refused in an epoch, nothing
-//! changes.
+//! **How much is free** (section 6.3). Four states, from `High` to `Low`, say how hard memory is reclaimed: by targets that
+//! fall, by paging, and in `Low` by blocking guests above their targets.
 //!
-//! A clause sees a host as a `World` (`specs/World.antt`): its machine, its domains, the record of each running guest by position
-//! in the list of domains, the number of free frames, state and phase. No frame is in it, so that the definitions of `bounded`
-//! and `after_epoch` are about plain data; that free and held frames add up is a law of them (`Conserves`).
+//! Where memory for the host itself is refused in a boundary, the host has failed. It is then as some of the lines left it, from the
+//! first one on, none of which is obeyed in part (`FailsAfterSome`). It can still be read and closed, shows no guest memory, and its
+//! frames still add up. Where memory is refused in an epoch, nothing changes.
+//!
+//! A clause sees a host as a `World` (`specs/World.antt`): its machine, the names of its domains, the pool of its frames and
+//! guests, state and phase. No frame is in it, so that the definitions of `bounded` (`specs/Boundary.antt`) and `after_epoch`
+//! are about plain data. After each call frames that are free, held and in overhead add up (`Conserves`), each running guest's
+//! record is good, and the revocations of a boundary were fair (`specs/Fairness.antt`).
 #![tactic(auto)]
 
 mod boundary;
-mod domains;
+mod decide;
 mod host;
+mod law;
 mod lines;
-mod machine;
-mod names;
+mod obey;
 mod parts;
 mod phase;
-mod slot;
-mod state;
+mod stages;
 #[cfg(test)]
 mod tests;
 
-pub use boundary::{Answer, Answers, Boundary, Outcome, Refusal};
-pub use domains::Domains;
+pub use boundary::{Answer, Answers, Boundary, DomainStatistics, Outcome, Refusal};
 pub use host::{Host, HostError};
+pub use law::law_boundary;
 pub use lines::Lines;
-pub use machine::MachineSpec;
 pub use phase::Phase;
-pub use state::State;
-pub use vm_guest::{GuestSpec, GuestView, PageRead};
+pub use vm_domains::{Domains, MachineSpec, Percents};
+pub use vm_plan::{Plan, State};
+pub use vm_pool::{Gate, GuestSpec, GuestView, Open, PageRead, Stats};
+pub use vm_reclaim::{Blocked, Paged, Paging};

@@ -1,3 +1,4 @@
 pub mod Resident
 pub mod Places
 pub mod FramesUnder
+mod Kept

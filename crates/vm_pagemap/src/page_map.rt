@@ -1,11 +1,10 @@
-ghost use Rattle.std.specs.Prelude.{◌≡◌, ◌+◌, ◌<◌, ◌≤◌, length, slice_range, slice_set, slice_index, IfOk};
+ghost use Rattle.std.specs.Prelude.{◌≡◌, ℕ, ◌+◌, ◌==◌, ◌<◌, ◌≤◌, if◌then◌else◌, length, get_or, slice_range, slice_set, slice_index, vec_len, vec_capacity, IfOk, OnErr};
 ghost use Rattle.vm_pages.specs.Pages.{count, members};
-ghost use Rattle.vm_pagemap.specs.PageMap.{absent_pages, page_at, place_of, bytes_of, resident, written, IsIn, IsNotIn};
+ghost use Rattle.vm_pagemap.specs.PageMap.{absent_pages, page_at, place_of, bytes_of, overwritten, resident, written, IsIn, IsNotIn};
 ghost use Rattle.vm_pagemap.specs.declared.page_map.Page.TheVariants.{In, Out, Absent};
 
 use std::alloc::{AllocError, Global};
 use std::marker::Model;
-use std::mem;
 use vm_frames::{Frame, PAGE_BYTES};
 use vm_pages::PageSet;
 
@@ -30,42 +29,60 @@ pub enum Page {
     Out,
 }
 
+// A frame that is under a page.
+struct Held {
+    page: u32,
+    frame: Frame,
+}
+
 /// Where each page of a guest is, with the frames of those that are in: the pmap of Waldspurger, OSDI 2002, section 2.
 ///
 /// A contract sees it as the list of its [`Page`]s, and each call that changes one leaves the others as they are. It owns the
 /// frames, so it isn't `Drop`: [`PageMap::close`] ends it, once no page is in. No call but [`PageMap::new`] takes memory.
-/// [`PageMap::resident_at`] passes over one count for each 256 pages and then over 256 pages at most; all other calls but
-/// `close` take constant time, but for the bytes that they copy.
+/// [`PageMap::resident_at`] passes over one count for each 256 pages and then over 256 pages at most; the first
+/// [`PageMap::put_frame`] under a page above all that were in before takes time for the pages between; all other calls take
+/// constant time, but for the bytes that they copy.
+///
+/// A system that gives out memory on first use gives some for as many frames as were in at once, and not for each page.
 pub struct PageMap {
-    pages: Vec<Page>,
     resident: PageSet,
+    out: PageSet,
+    // For each page that is in, where its frame is; up to the greatest page that was ever in.
+    slots: Vec<u32>,
+    // The frames of the pages that are in, in no order.
+    held: Vec<Held>,
 }
 
 impl Model for PageMap {
-    ghost use Rattle.std.specs.Prelude.{◌≡◌, List};
+    ghost use Rattle.std.specs.Prelude.{List};
     ghost use Rattle.vm_pagemap.specs.declared.page_map.Page.{Page};
-    ghost use Rattle.vm_pagemap.specs.PageMap.{resident as resident_of};
+    ghost use Rattle.vm_pagemap.specs.Kept.{pages_of, IsKept};
 
     ghost Value = { List Page };
 
-    ghost view = { λ m. m.pages.items };
+    ghost view = { λ m. pages_of m.resident m.out m.slots.items m.held.items };
 
-    ghost invariant = { λ m. m.resident ≡ resident_of m.pages.items };
+    ghost invariant = { IsKept };
 }
 
 impl PageMap {
     /// The map of a guest of `size` pages, all of them absent.
     ///
-    /// An error says that memory was refused.
+    /// An error says that memory was refused, which is only where there are pages.
     pub fn new(alloc: Global, size: u32) -> Result<PageMap, AllocError>
-        ensures { IfOk result (λ m. m ≡ absent_pages size) }
+        ensures map { IfOk result (λ m. m ≡ absent_pages size) }
+        ensures memory { OnErr result (0 < size) }
     {
         let resident = PageSet::new(alloc, size)?;
-        let mut pages = Vec::with_capacity(alloc, size as usize)?;
-        for _ in 0..size {
-            pages.push_reserved(Page::Absent);
-        }
-        Ok(PageMap { pages, resident })
+        let out = PageSet::new(alloc, size)?;
+        let slots = Vec::with_capacity(alloc, size as usize)?;
+        let held = Vec::with_capacity(alloc, size as usize)?;
+        Ok(PageMap {
+            resident,
+            out,
+            slots,
+            held,
+        })
     }
 
     /// Where a page is.
@@ -77,10 +94,12 @@ impl PageMap {
         ensures is_in { result ≡ Place.In → IsIn (page_at self.now page) }
         ensures out { result ≡ Place.Out → page_at self.now page ≡ Out }
     {
-        match self.pages[page as usize] {
-            Page::Absent => Place::Absent,
-            Page::In(_) => Place::In,
-            Page::Out => Place::Out,
+        if self.resident.contains(page) {
+            Place::In
+        } else if self.out.contains(page) {
+            Place::Out
+        } else {
+            Place::Absent
         }
     }
 
@@ -91,9 +110,8 @@ impl PageMap {
         requires within { offset + length bytes.old ≤ PAGE_BYTES }
         ensures { bytes.new ≡ slice_range (bytes_of (page_at self.now page)) offset (offset + length bytes.old) }
     {
-        let Page::In(frame) = &self.pages[page as usize] else {
-            unreachable!()
-        };
+        let slot = self.slots[page as usize] as usize;
+        let frame = &self.held[slot].frame;
         bytes.copy_from_slice(&frame.bytes()[offset..offset + bytes.len()]);
     }
 
@@ -104,7 +122,8 @@ impl PageMap {
         requires within { offset + length bytes.now ≤ PAGE_BYTES }
         ensures { self.new ≡ slice_set self.old page (written (page_at self.old page) offset bytes.now) }
     {
-        write_framed(&mut self.pages[page as usize], offset, bytes);
+        let slot = self.slots[page as usize] as usize;
+        write_held(&mut self.held[slot], offset, bytes);
     }
 
     /// Puts a page into a frame, which it then reads as. The frame's bytes are those that it has.
@@ -113,8 +132,11 @@ impl PageMap {
         requires not_in { IsNotIn (page_at self.old page) }
         ensures { self.new ≡ slice_set self.old page (In frame) }
     {
+        let slot = self.held.len() as u32;
         self.resident.insert(page);
-        replace_unframed(&mut self.pages[page as usize], Page::In(frame));
+        let _was_out = self.out.remove(page);
+        note_slot(&mut self.slots, page, slot);
+        self.held.push_reserved(Held { page, frame });
     }
 
     /// Takes a page's frame from it, with its bytes. The page is absent then.
@@ -124,11 +146,13 @@ impl PageMap {
         ensures frame { page_at self.old page ≡ In result }
         ensures absent { self.new ≡ slice_set self.old page Absent }
     {
+        let slot = self.slots[page as usize];
+        // The last frame takes the place of the page's, which may be the last itself.
+        let moved = self.held[self.held.len() - 1].page;
+        self.slots[moved as usize] = slot;
         self.resident.remove(page);
-        match mem::replace(&mut self.pages[page as usize], Page::Absent) {
-            Page::In(frame) => frame,
-            Page::Absent | Page::Out => unreachable!(),
-        }
+        let Held { page: _, frame } = self.held.swap_remove(slot as usize);
+        frame
     }
 
     /// Says that a page without a frame is in the swap area.
@@ -137,7 +161,7 @@ impl PageMap {
         requires not_in { IsNotIn (page_at self.old page) }
         ensures { self.new ≡ slice_set self.old page Out }
     {
-        replace_unframed(&mut self.pages[page as usize], Page::Out);
+        self.out.insert(page);
     }
 
     /// Says that a page without a frame is nowhere.
@@ -146,7 +170,7 @@ impl PageMap {
         requires not_in { IsNotIn (page_at self.old page) }
         ensures { self.new ≡ slice_set self.old page Absent }
     {
-        replace_unframed(&mut self.pages[page as usize], Page::Absent);
+        self.out.remove(page);
     }
 
     /// How many pages are in.
@@ -171,40 +195,37 @@ impl PageMap {
         requires { count (resident self) ≡ 0 }
     {
         let PageMap {
-            mut pages,
             resident: _,
+            out: _,
+            slots: _,
+            held,
         } = self;
-        while let Some(page) = pages.pop() {
-            match page {
-                Page::Absent | Page::Out => {}
-                Page::In(_frame) => unreachable!(),
-            }
-        }
-        pages.destroy_empty();
+        held.destroy_empty();
     }
 }
 
-// Puts another page in the place of one that has no frame.
-fn replace_unframed(page: &mut Page, new: Page)
-    requires { IsNotIn page.old }
-    ensures { page.new ≡ new }
+// Lets a page find its frame in a slot, in the room that was reserved.
+fn note_slot(slots: &mut Vec<u32>, page: u32, slot: u32)
+    requires room { page < vec_capacity slots.old }
+    ensures noted { (q : ℕ) → get_or slots.new.items q 0 ≡ (if q == page then slot else get_or slots.old.items q 0) }
+    ensures reached { page < vec_len slots.new }
+    ensures no_less { vec_len slots.old ≤ vec_len slots.new }
+    ensures room { vec_capacity slots.old ≤ vec_capacity slots.new }
 {
-    match mem::replace(page, new) {
-        Page::Absent | Page::Out => {}
-        Page::In(_frame) => unreachable!(),
+    let at = page as usize;
+    if slots.len() <= at {
+        slots.resize(at + 1, 0).unwrap();
     }
+    slots[at] = slot;
 }
 
-// Writes bytes to the frame of a page that is in.
-fn write_framed(page: &mut Page, offset: usize, bytes: &[u8])
-    requires is_in { IsIn page.old }
-    requires within { offset + length bytes.now ≤ PAGE_BYTES }
-    ensures { page.new ≡ written page.old offset bytes.now }
+// Writes bytes to a frame.
+fn write_held(held: &mut Held, offset: usize, bytes: &[u8])
+    requires { offset + length bytes.now ≤ PAGE_BYTES }
+    ensures page { held.new.page ≡ held.old.page }
+    ensures frame { held.new.frame ≡ record held.old.frame { bytes = overwritten held.old.frame.bytes offset bytes.now } }
 {
-    let Page::In(frame) = page else {
-        unreachable!()
-    };
-    frame.bytes_mut()[offset..offset + bytes.len()].copy_from_slice(bytes);
+    held.frame.bytes_mut()[offset..offset + bytes.len()].copy_from_slice(bytes);
 }
 
 #[cfg(test)]

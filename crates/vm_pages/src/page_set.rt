@@ -1,4 +1,4 @@
-ghost use Rattle.std.specs.Prelude.{◌≡◌, ◌+◌, ◌*◌, ◌^◌, ◌<◌, ◌≤◌, ◌↔◌, All, [], not, length, reverse, take, sum, slice_index, vec_capacity, IfOk, IsTrue};
+ghost use Rattle.std.specs.Prelude.{◌≡◌, ◌+◌, ◌*◌, ◌^◌, ◌<◌, ◌≤◌, ◌↔◌, All, [], not, length, reverse, take, sum, slice_index, replicate, vec_capacity, IfOk, IsTrue, OnErr};
 ghost use Rattle.vm_pages.specs.Pages.{no_pages, contains, insert, remove, count, count_below, members};
 ghost use Rattle.vm_pages.specs.Blocks.{AreCounted};
 ghost use Rattle.vm_pages.specs.Extremes.{greatest_from, least_below};
@@ -35,16 +35,28 @@ impl Model for PageSet {
     ghost invariant = { λ s. AreCounted s.marks.items s.counts.items s.len };
 }
 
+// So many times the same item. Memory is wanted only for some.
+fn filled<T: Copy>(alloc: Global, count: usize, item: T) -> Result<Vec<T>, AllocError>
+    ensures items { IfOk result (λ v. v.items ≡ replicate count item) }
+    ensures memory { OnErr result (0 < count) }
+{
+    let mut items = Vec::with_capacity(alloc, count)?;
+    items.resize(count, item)?;
+    Ok(items)
+}
+
 impl PageSet {
     /// The empty set of a guest of `size` pages.
     ///
-    /// An error says that memory was refused.
+    /// An error says that memory was refused, which is only where there are pages.
     pub fn new(alloc: Global, size: u32) -> Result<PageSet, AllocError>
-        ensures { IfOk result (λ s. s ≡ no_pages size) }
+        ensures set { IfOk result (λ s. s ≡ no_pages size) }
+        ensures memory { OnErr result (0 < size) }
     {
         let pages = size as usize;
-        let marks = vec![in alloc; false; pages]?;
-        let counts = vec![in alloc; 0; pages.div_ceil(BLOCK_PAGES)]?;
+        let blocks = pages.div_ceil(BLOCK_PAGES);
+        let marks = filled(alloc, pages, false)?;
+        let counts = filled(alloc, blocks, 0)?;
         Ok(PageSet {
             marks,
             counts,

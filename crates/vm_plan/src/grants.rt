@@ -1,21 +1,20 @@
 //! Which guests get more pages.
-ghost use Rattle.std.specs.Prelude.{◌≡◌, ◌<◌, ◌≤◌, ◌↔◌, ℕ, All, IfOk, IfSome, IfNone, IsNone, IsTrue, length, slice_get};
+ghost use Rattle.std.specs.Prelude.{◌≡◌, ◌<◌, ◌≤◌, ◌↔◌, ℕ, All, IfOk, IfErr, IfSome, IfNone, IsTrue, length, slice_get};
 ghost use Rattle.vm_tax.specs.Ratio.{hundredths};
-ghost use Rattle.vm_tax.specs.Offers.{IsLeast};
 ghost use Rattle.vm_plan.specs.Moves.{EachMove};
 ghost use Rattle.vm_plan.specs.Grants.{granted_row, frames_for, pool_after, Outbids, MayGrant, IsNextGrant, IsGrantable, IsGrantList, grant_list};
 ghost use Rattle.vm_plan.specs.PlanRow.{row_of, rows_of, pool_of};
-ghost use Rattle.vm_plan.specs.Row.{change_at, others, revocable_ratios};
+ghost use Rattle.vm_plan.specs.Row.{change_at};
 ghost use Rattle.vm_plan.specs.Track.{IsTracked};
+ghost use Rattle.vm_plan.specs.declared.tracking.Kind.TheVariants.{Revocable, Wanting};
 
 use crate::plan::Plan;
 use crate::row::PlanRow;
-use crate::scan::greatest;
 use crate::state::State;
 use crate::thresholds::Thresholds;
-use crate::tracking::track;
+use crate::tracking::{copy_of, track_revocable, track_wanting};
 use std::alloc::{AllocError, Global};
-use vm_tax::{Winners, cmp_price};
+use vm_tax::{Greatest, Winners, cmp_price};
 
 /// Adds one page to a guest's target, and says how many free frames that takes.
 fn add_page(row: &mut PlanRow) -> u32
@@ -32,54 +31,50 @@ fn add_page(row: &mut PlanRow) -> u32
 }
 
 /// Gives a guest one page more, and says how many free frames that takes.
-fn give_page(tax: u32, rows: &mut [PlanRow], winners: &mut Winners, position: u32) -> u32
+fn give_page(
+    tax: u32,
+    rows: &mut [PlanRow],
+    winners: &mut Winners,
+    wanting: &mut Greatest,
+    position: u32,
+) -> u32
     requires tax { tax ≤ 9999 }
     requires within { position < length rows.old }
     requires wants { IfSome (slice_get rows.old position) (λ row. 0 < row.demand) }
     requires below_cap { IfSome (slice_get rows.old position) (λ row. row.target < row.cap) }
-    requires tracked { IsTracked tax winners.old (rows_of rows.old) }
+    requires tracked { IsTracked Revocable tax winners.old (rows_of rows.old) }
+    requires wanting { IsTracked Wanting tax wanting.old (rows_of rows.old) }
     ensures given { rows_of rows.new ≡ change_at granted_row (rows_of rows.old) position }
     ensures frames { IfSome (slice_get rows.old position) (λ row. result ≡ frames_for (row_of row)) }
-    ensures tracked { IsTracked tax winners.new (rows_of rows.new) }
+    ensures tracked { IsTracked Revocable tax winners.new (rows_of rows.new) }
+    ensures wanting { IsTracked Wanting tax wanting.new (rows_of rows.new) }
 {
     let row = &mut rows[position as usize];
     let frames = add_page(row);
     winners.set(position, row.revocable_price(tax));
+    wanting.set(position, row.wanting_price(tax));
     frames
 }
 
-/// The least of the other guests that revocation may take from.
-fn rival_to(tax: u32, rows: &[PlanRow], winners: &mut Winners, position: u32) -> Option<u32>
-    requires tax { tax ≤ 9999 }
-    requires within { position < length rows.now }
-    requires tracked { IsTracked tax winners.old (rows_of rows.now) }
-    ensures least { let offers = revocable_ratios (hundredths tax) (rows_of rows.now) in
-        IfSome result (IsLeast (others offers position)) }
-    ensures none { let offers = revocable_ratios (hundredths tax) (rows_of rows.now) in
-        IsNone result → All IsNone (others offers position) }
-    ensures tracked { IsTracked tax winners.new (rows_of rows.now) }
-{
-    winners.set(position, None);
-    let rival = winners.least();
-    winners.set(position, rows[position as usize].revocable_price(tax));
-    rival
-}
-
 /// Whether a guest with one page more isn't below the least of the others that revocation may take from.
-fn outbids(tax: u32, rows: &[PlanRow], winners: &mut Winners, position: u32) -> bool
+///
+/// Where the least of all is the guest itself, it is below the others already, and more so with one page more.
+fn outbids(tax: u32, rows: &[PlanRow], winners: &Winners, position: u32) -> bool
     requires tax { tax ≤ 9999 }
     requires within { position < length rows.now }
     requires below_cap { IfSome (slice_get rows.now position) (λ row. row.target < row.cap) }
-    requires tracked { IsTracked tax winners.old (rows_of rows.now) }
-    ensures outbids { IsTrue result ↔ Outbids (hundredths tax) (rows_of rows.now) position }
-    ensures tracked { IsTracked tax winners.new (rows_of rows.now) }
+    requires tracked { IsTracked Revocable tax winners.now (rows_of rows.now) }
+    ensures { IsTrue result ↔ Outbids (hundredths tax) (rows_of rows.now) position }
 {
-    let Some(rival) = rival_to(tax, rows, winners, position) else {
+    let row = &rows[position as usize];
+    let grown = row.price_with(tax, row.target + 1);
+    let Some(rival) = winners.least() else {
         return false;
     };
-    let row = &rows[position as usize];
+    if rival == position {
+        return false;
+    }
     let rival = &rows[rival as usize];
-    let grown = row.price_with(tax, row.target + 1);
     cmp_price(&grown, &rival.price_with(tax, rival.target)).is_ge()
 }
 
@@ -90,16 +85,15 @@ fn may_grant(
     thresholds: &Thresholds,
     tax: u32,
     rows: &[PlanRow],
-    winners: &mut Winners,
+    winners: &Winners,
     position: u32,
 ) -> bool
     requires tax { tax ≤ 9999 }
     requires within { position < length rows.now }
     requires below_cap { IfSome (slice_get rows.now position) (λ row. row.target < row.cap) }
-    requires tracked { IsTracked tax winners.old (rows_of rows.now) }
-    ensures may { IsTrue result
+    requires tracked { IsTracked Revocable tax winners.now (rows_of rows.now) }
+    ensures { IsTrue result
         ↔ MayGrant state thresholds.now (hundredths tax) (pool_of free rows.now) position }
-    ensures tracked { IsTracked tax winners.new (rows_of rows.now) }
 {
     match state {
         State::High => free > thresholds.soft,
@@ -116,19 +110,19 @@ fn next_grant(
     thresholds: &Thresholds,
     tax: u32,
     rows: &[PlanRow],
-    winners: &mut Winners,
+    winners: &Winners,
+    wanting: &Greatest,
 ) -> Option<u32>
-    requires few { length rows.now ≤ 256 }
     requires tax { tax ≤ 9999 }
-    requires tracked { IsTracked tax winners.old (rows_of rows.now) }
+    requires tracked { IsTracked Revocable tax winners.now (rows_of rows.now) }
+    requires wanting { IsTracked Wanting tax wanting.now (rows_of rows.now) }
     ensures some { IfSome result (IsNextGrant state thresholds.now (hundredths tax) (pool_of free rows.now)) }
     ensures none { IfNone result ((position : ℕ) →
         ¬ IsNextGrant state thresholds.now (hundredths tax) (pool_of free rows.now) position) }
-    ensures tracked { IsTracked tax winners.new (rows_of rows.now) }
 {
-    let best = greatest(tax, rows)?;
-    if may_grant(state, free, thresholds, tax, rows, winners, best.position) {
-        Some(best.position)
+    let best = wanting.greatest()?;
+    if may_grant(state, free, thresholds, tax, rows, winners, best) {
+        Some(best)
     } else {
         None
     }
@@ -138,8 +132,8 @@ fn next_grant(
 ///
 /// `free` is the number of free frames, and `tax` is in hundredths of a percent. Each entry is the guest of the greatest price
 /// among those that have demand and are below their cap, where the conditions of the state hold for it; at the first for which
-/// they don't hold, the plan ends. In Low it is empty. An entry costs one pass over the rows. The only error is a want of
-/// memory.
+/// they don't hold, the plan ends. In Low it is empty. An entry costs a logarithm of the number of rows. The only error is a
+/// want of memory, where there is a row.
 pub fn grant(
     alloc: Global,
     state: State,
@@ -161,14 +155,18 @@ pub fn grant(
     ensures within { IfOk result (All (λ position. position < length rows.now)) }
     ensures applies { IfOk result
         (EachMove (λ before position. IsGrantable (pool_after (pool_of free rows.now) before) position)) }
+    ensures memory { IfErr result (λ _. 0 < length rows.now) }
 {
-    let mut after = Vec::from_slice(alloc, rows)?;
-    let mut winners = track(alloc, tax, rows)?;
+    let mut after = copy_of(alloc, rows)?;
+    let mut winners = track_revocable(alloc, tax, rows)?;
+    let mut wanting = track_wanting(alloc, tax, rows)?;
     let mut left = free;
-    let mut moves = Vec::new(alloc);
-    while let Some(position) = next_grant(state, left, thresholds, tax, &after, &mut winners) {
-        left -= give_page(tax, &mut after, &mut winners, position);
-        moves.push(position)?;
+    let mut plan = Plan::new(alloc);
+    while let Some(position) = next_grant(
+        state, left, thresholds, tax, &after, &winners, &wanting,
+    ) {
+        left -= give_page(tax, &mut after, &mut winners, &mut wanting, position);
+        plan.push(position)?;
     }
-    Ok(Plan::new(moves))
+    Ok(plan)
 }

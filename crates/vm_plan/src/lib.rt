@@ -7,12 +7,14 @@
 
 mod grants;
 mod laws;
+mod moves;
 mod paging;
 mod plan;
 mod revocation;
 mod row;
 mod scan;
 mod state;
+mod stretch;
 #[cfg(test)]
 mod tests;
 mod thresholds;
@@ -20,10 +22,12 @@ mod tracking;
 
 pub use grants::grant;
 pub use laws::{law_grant_list, law_revocation_list, law_scales};
+pub use moves::Moves;
 pub use paging::{is_blocked, page_count};
 pub use plan::Plan;
-pub use revocation::revoke;
+pub use revocation::{revocations, revoke};
 pub use row::PlanRow;
 pub use scan::least;
 pub use state::{State, next_state};
+pub use stretch::Stretch;
 pub use thresholds::{Percents, Thresholds};

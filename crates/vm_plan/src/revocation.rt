@@ -1,17 +1,18 @@
 //! Which guests have to give pages up.
-ghost use Rattle.std.specs.Prelude.{◌≡◌, ℕ, ◌<◌, ◌≤◌, All, IfOk, IfSome, length, slice_get};
+ghost use Rattle.std.specs.Prelude.{◌≡◌, ℕ, ◌<◌, ◌≤◌, All, IfOk, IfErr, IfSome, length, slice_get};
 ghost use Rattle.vm_tax.specs.Ratio.{hundredths};
 ghost use Rattle.vm_plan.specs.Moves.{EachMove};
 ghost use Rattle.vm_plan.specs.PlanRow.{rows_of};
 ghost use Rattle.vm_plan.specs.Revocation.{shortfall_of, revoked_row, rows_after, IsRevocable, IsRevocationList, revocation_list};
 ghost use Rattle.vm_plan.specs.Row.{change_at};
 ghost use Rattle.vm_plan.specs.Track.{IsTracked};
+ghost use Rattle.vm_plan.specs.declared.tracking.Kind.TheVariants.{Revocable};
 
 use crate::plan::Plan;
 use crate::row::PlanRow;
 use crate::state::State;
 use crate::thresholds::Thresholds;
-use crate::tracking::track;
+use crate::tracking::{copy_of, track_revocable};
 use std::alloc::{AllocError, Global};
 use vm_tax::Winners;
 
@@ -38,13 +39,50 @@ fn take_page(tax: u32, rows: &mut [PlanRow], winners: &mut Winners, position: u3
     requires tax { tax ≤ 9999 }
     requires within { position < length rows.old }
     requires above { IfSome (slice_get rows.old position) (λ row. row.min < row.target) }
-    requires tracked { IsTracked tax winners.old (rows_of rows.old) }
+    requires tracked { IsTracked Revocable tax winners.old (rows_of rows.old) }
     ensures taken { rows_of rows.new ≡ change_at revoked_row (rows_of rows.old) position }
-    ensures tracked { IsTracked tax winners.new (rows_of rows.new) }
+    ensures tracked { IsTracked Revocable tax winners.new (rows_of rows.new) }
 {
     let row = &mut rows[position as usize];
     row.target -= 1;
     winners.set(position, row.revocable_price(tax));
+}
+
+/// So many revocations, one page each, from the least price up: min-funding revocation (Waldspurger, OSDI 2002, sections 5.1
+/// and 5.2).
+///
+/// `tax` is in hundredths of a percent. The plan has as many entries as are wanted, fewer only where no guest is above its
+/// minimum any more. An entry costs a logarithm of the number of rows. The only error is a want of memory, where there is a row.
+pub fn revocations(
+    alloc: Global,
+    tax: u32,
+    wanted: u64,
+    rows: &[PlanRow],
+) -> Result<Plan, AllocError>
+    requires few { length rows.now ≤ 256 }
+    requires tax { tax ≤ 9999 }
+    ensures list { IfOk result (IsRevocationList (hundredths tax) wanted (rows_of rows.now)) }
+
+    // The same list, as a function of the arguments.
+    ensures exact { IfOk result (λ plan. plan ≡ revocation_list (hundredths tax) wanted (rows_of rows.now)) }
+
+    // Each entry can be taken where it stands.
+    ensures within { IfOk result (All (λ position. position < length rows.now)) }
+    ensures applies { IfOk result
+        (EachMove (λ before position. IsRevocable (rows_after (rows_of rows.now) before) position)) }
+    ensures memory { IfErr result (λ _. 0 < length rows.now) }
+{
+    let mut after = copy_of(alloc, rows)?;
+    let mut winners = track_revocable(alloc, tax, rows)?;
+    let mut plan = Plan::new(alloc);
+    for _turn in 0..wanted {
+        let Some(position) = winners.least() else {
+            break;
+        };
+        take_page(tax, &mut after, &mut winners, position);
+        plan.push(position)?;
+    }
+    Ok(plan)
 }
 
 /// The revocations that a state asks for, one page each, from the least price up: min-funding revocation (Waldspurger, OSDI
@@ -53,7 +91,7 @@ fn take_page(tax: u32, rows: &mut [PlanRow], winners: &mut Winners, position: u3
 /// `free` is the number of free frames, and `tax` is in hundredths of a percent. The plan has as many entries as frames are
 /// missing to the goal, beside those free and those that guests hold above their targets; fewer only where no guest is above
 /// its minimum any more. In High it is empty. An entry costs a logarithm of the number of rows. The only error is a want of
-/// memory.
+/// memory, where there is a row.
 pub fn revoke(
     alloc: Global,
     state: State,
@@ -76,17 +114,8 @@ pub fn revoke(
     ensures within { IfOk result (All (λ position. position < length rows.now)) }
     ensures applies { IfOk result
         (EachMove (λ before position. IsRevocable (rows_after (rows_of rows.now) before) position)) }
+    ensures memory { IfErr result (λ _. 0 < length rows.now) }
 {
     let wanted = shortfall(state, free, thresholds, rows);
-    let mut after = Vec::from_slice(alloc, rows)?;
-    let mut winners = track(alloc, tax, rows)?;
-    let mut moves = Vec::new(alloc);
-    for _turn in 0..wanted {
-        let Some(position) = winners.least() else {
-            break;
-        };
-        take_page(tax, &mut after, &mut winners, position);
-        moves.push(position)?;
-    }
-    Ok(Plan::new(moves))
+    revocations(alloc, tax, wanted, rows)
 }

@@ -1,7 +1,10 @@
 //! Worked examples of the policy.
 ghost use Rattle.std.specs.Prelude.{◌≡◌, ◌≤◌};
 
+mod limits;
+
 use super::*;
+use std::alloc::{AllocError, Global};
 use std::test::Fail;
 
 const PERCENTS: Percents = Percents {
@@ -36,7 +39,7 @@ fn row(shares: u32, target: u32, min: u32, active: u32) -> PlanRow
 }
 
 /// A guest of ten pages that may have twenty, and wants some.
-fn wanting(shares: u32, demand: u32) -> PlanRow
+fn wanting(shares: u32, demand: u64) -> PlanRow
     requires some_shares { 1 ≤ shares }
     requires few_shares { shares ≤ 1000000 }
     ensures target { result.target ≡ 10 }
@@ -52,6 +55,11 @@ fn wanting(shares: u32, demand: u32) -> PlanRow
         used: 10,
         demand,
     }
+}
+
+/// The positions of a plan, in order.
+fn listed(alloc: Global, plan: &Plan) -> Result<Vec<u32>, AllocError> {
+    plan.moves().collect(alloc)
 }
 
 #[test]
@@ -110,11 +118,22 @@ fn idle_memory_is_taxed(rt: HostRuntime) -> Result<(), Fail> {
     let rows = [row(100, 10, 2, ALL_ACTIVE), row(100, 5, 2, 0)];
     assert_eq!(rt; least(7500, &rows), Some(1));
     let plan = revoke(rt.alloc(), State::Soft, 3, &thresholds, 7500, &rows)?;
-    assert_eq!(rt; plan.moves(), [1, 1, 1, 0].as_slice());
+    assert_eq!(rt;
+        listed(rt.alloc(), &plan)?.as_slice(),
+        [1, 1, 1, 0].as_slice()
+    );
     let plan = revoke(rt.alloc(), State::Soft, 3, &thresholds, 0, &rows)?;
-    assert_eq!(rt; plan.moves(), [0, 0, 0, 0].as_slice(), "untaxed");
+    assert_eq!(rt;
+        listed(rt.alloc(), &plan)?.as_slice(),
+        [0, 0, 0, 0].as_slice(),
+        "untaxed"
+    );
     let plan = revoke(rt.alloc(), State::High, 3, &thresholds, 7500, &rows)?;
-    assert_eq!(rt; plan.moves(), [].as_slice(), "in High");
+    assert_eq!(rt;
+        listed(rt.alloc(), &plan)?.as_slice(),
+        [].as_slice(),
+        "in High"
+    );
     Ok(())
 }
 
@@ -123,7 +142,7 @@ fn equal_prices_go_to_the_lower_position(rt: HostRuntime) -> Result<(), Fail> {
     let thresholds = Thresholds::of(100, PERCENTS);
     let rows = [row(100, 5, 1, ALL_ACTIVE), row(100, 5, 1, ALL_ACTIVE)];
     let plan = revoke(rt.alloc(), State::Soft, 5, &thresholds, 7500, &rows)?;
-    assert_eq!(rt; plan.moves(), [0, 1].as_slice());
+    assert_eq!(rt; listed(rt.alloc(), &plan)?.as_slice(), [0, 1].as_slice());
     Ok(())
 }
 
@@ -139,9 +158,7 @@ fn revocation_ends_at_the_minimum(rt: HostRuntime) -> Result<(), Fail> {
     let thresholds = Thresholds::of(100, PERCENTS);
     let rows = [row(100, 3, 2, ALL_ACTIVE)];
     let plan = revoke(rt.alloc(), State::Low, 0, &thresholds, 7500, &rows)?;
-    assert_eq!(rt; plan.moves(), [0].as_slice());
-    let moves = plan.into_moves();
-    assert_eq!(rt; moves.as_slice(), [0].as_slice());
+    assert_eq!(rt; listed(rt.alloc(), &plan)?.as_slice(), [0].as_slice());
     Ok(())
 }
 
@@ -151,13 +168,16 @@ fn grants_go_to_the_greatest_price(rt: HostRuntime) -> Result<(), Fail> {
     let first = [wanting(300, 5), wanting(100, 0)];
     let second = [wanting(300, 0), wanting(100, 5)];
     let granted = grant(rt.alloc(), State::Soft, 3, &thresholds, 7500, &first)?;
-    assert_eq!(rt; granted.moves(), [0].as_slice());
+    assert_eq!(rt; listed(rt.alloc(), &granted)?.as_slice(), [0].as_slice());
     let granted = grant(rt.alloc(), State::Soft, 3, &thresholds, 7500, &second)?;
-    assert_eq!(rt; granted.moves(), [].as_slice());
+    assert_eq!(rt; listed(rt.alloc(), &granted)?.as_slice(), [].as_slice());
     let granted = grant(rt.alloc(), State::High, 10, &thresholds, 7500, &first)?;
-    assert_eq!(rt; granted.moves(), [0, 0, 0, 0, 0].as_slice());
+    assert_eq!(rt;
+        listed(rt.alloc(), &granted)?.as_slice(),
+        [0, 0, 0, 0, 0].as_slice()
+    );
     let granted = grant(rt.alloc(), State::Low, 10, &thresholds, 7500, &first)?;
-    assert_eq!(rt; granted.moves(), [].as_slice());
+    assert_eq!(rt; listed(rt.alloc(), &granted)?.as_slice(), [].as_slice());
     Ok(())
 }
 
@@ -167,9 +187,9 @@ fn equal_prices_go_on_growing(rt: HostRuntime) -> Result<(), Fail> {
     let equal = [wanting(110, 5), wanting(100, 0)];
     let below = [wanting(109, 5), wanting(100, 0)];
     let granted = grant(rt.alloc(), State::Soft, 3, &thresholds, 7500, &equal)?;
-    assert_eq!(rt; granted.moves(), [0].as_slice());
+    assert_eq!(rt; listed(rt.alloc(), &granted)?.as_slice(), [0].as_slice());
     let granted = grant(rt.alloc(), State::Soft, 3, &thresholds, 7500, &below)?;
-    assert_eq!(rt; granted.moves(), [].as_slice());
+    assert_eq!(rt; listed(rt.alloc(), &granted)?.as_slice(), [].as_slice());
     Ok(())
 }
 
@@ -180,9 +200,12 @@ fn free_frames_are_asked_for_where_none_moves(rt: HostRuntime) -> Result<(), Fai
     above.held = 15;
     let rows = [above];
     let granted = grant(rt.alloc(), State::High, 4, &thresholds, 7500, &rows)?;
-    assert_eq!(rt; granted.moves(), [].as_slice());
+    assert_eq!(rt; listed(rt.alloc(), &granted)?.as_slice(), [].as_slice());
     let granted = grant(rt.alloc(), State::High, 5, &thresholds, 7500, &rows)?;
-    assert_eq!(rt; granted.moves(), [0, 0, 0, 0, 0].as_slice());
+    assert_eq!(rt;
+        listed(rt.alloc(), &granted)?.as_slice(),
+        [0, 0, 0, 0, 0].as_slice()
+    );
     Ok(())
 }
 
@@ -192,12 +215,16 @@ fn grants_stop_at_the_cap_and_at_the_threshold(rt: HostRuntime) -> Result<(), Fa
     let mut capped = wanting(100, 5);
     capped.cap = 12;
     let granted = grant(rt.alloc(), State::High, 90, &thresholds, 7500, &[capped])?;
-    assert_eq!(rt; granted.moves(), [0, 0].as_slice());
+    assert_eq!(rt; listed(rt.alloc(), &granted)?.as_slice(), [0, 0].as_slice());
     let rows = [wanting(300, 5), wanting(100, 0)];
     let granted = grant(rt.alloc(), State::Hard, 3, &thresholds, 7500, &rows)?;
-    assert_eq!(rt; granted.moves(), [0, 0].as_slice());
+    assert_eq!(rt; listed(rt.alloc(), &granted)?.as_slice(), [0, 0].as_slice());
     let granted = grant(rt.alloc(), State::Hard, 3, &thresholds, 7500, &[rows[0]])?;
-    assert_eq!(rt; granted.moves(), [].as_slice(), "without a rival");
+    assert_eq!(rt;
+        listed(rt.alloc(), &granted)?.as_slice(),
+        [].as_slice(),
+        "without a rival"
+    );
     Ok(())
 }
 
@@ -213,4 +240,61 @@ fn pages_are_counted(rt: HostRuntime) {
     assert!(rt; is_blocked(State::Low, &above));
     assert!(rt; !is_blocked(State::Hard, &above));
     assert!(rt; !is_blocked(State::Low, &wanting(100, 0)));
+}
+
+#[test]
+fn so_many_pages_are_taken(rt: HostRuntime) -> Result<(), Fail> {
+    let rows = [row(100, 10, 2, ALL_ACTIVE), row(100, 5, 2, 0)];
+    let plan = revocations(rt.alloc(), 7500, 4, &rows)?;
+    assert_eq!(rt;
+        listed(rt.alloc(), &plan)?.as_slice(),
+        [1, 1, 1, 0].as_slice()
+    );
+    let plan = revocations(rt.alloc(), 7500, 0, &rows)?;
+    assert_eq!(rt;
+        listed(rt.alloc(), &plan)?.as_slice(),
+        [].as_slice(),
+        "none are wanted"
+    );
+    let plan = revocations(rt.alloc(), 7500, u64::MAX, &rows)?;
+    assert_eq!(rt; plan.moves().count(), 11, "all are wanted");
+    let plan = revocations(rt.alloc(), 7500, 3, &[])?;
+    assert_eq!(rt;
+        listed(rt.alloc(), &plan)?.as_slice(),
+        [].as_slice(),
+        "without guests"
+    );
+    Ok(())
+}
+
+#[test]
+fn the_greatest_demand_is_served_to_the_cap(rt: HostRuntime) -> Result<(), Fail> {
+    let thresholds = Thresholds::of(100, PERCENTS);
+    let rows = [wanting(100, 0), wanting(100, u64::MAX)];
+    let plan = grant(rt.alloc(), State::High, 90, &thresholds, 7500, &rows)?;
+    assert_eq!(rt; listed(rt.alloc(), &plan)?.as_slice(), [1; 10].as_slice());
+    let plan = grant(rt.alloc(), State::High, 90, &thresholds, 7500, &[])?;
+    assert_eq!(rt;
+        listed(rt.alloc(), &plan)?.as_slice(),
+        [].as_slice(),
+        "without guests"
+    );
+    Ok(())
+}
+
+#[test]
+fn equal_positions_are_one_stretch(rt: HostRuntime) -> Result<(), Fail> {
+    let rows = [row(100, 10, 2, ALL_ACTIVE), row(100, 5, 2, 0)];
+    let plan = revocations(rt.alloc(), 7500, 4, &rows)?;
+    let three = Stretch {
+        position: 1,
+        count: 3,
+    };
+    let one = Stretch {
+        position: 0,
+        count: 1,
+    };
+    assert_eq!(rt; plan.stretches(), [three, one].as_slice());
+    assert_eq!(rt; Plan::new(rt.alloc()).stretches(), [].as_slice());
+    Ok(())
 }

@@ -1,11 +1,12 @@
 -- Counts of draws, as pages are drawn and touched.
-use Rattle.std.proofs.Common.{◌≡◌, ℕ, ◌+◌, ◌-◌, ◌<◌, ◌≤◌, true, false, Bool, List, [], ◌∷◌, ◌++◌, length, get_or, refl, arith}
-use Rattle.std.specs.Prelude.{All, count_by, replicate}
+use Rattle.std.proofs.Common.{◌≡◌, ℕ, ◌+◌, ◌-◌, ◌<◌, ◌≤◌, true, false, Bool, List, [], ◌∷◌, ◌++◌, length, get_or, refl, sym, ap, ◌∙◌, arith}
+use Rattle.std.specs.Prelude.{count_by, replicate}
 use Rattle.std.proofs.Math.ListN.{set, length-set}
-use Rattle.std.proofs.lemmas.List.Sums.{count_by-le-length}
+use Rattle.std.proofs.lemmas.List.{length-replicate}
 use Rattle.std.proofs.lemmas.Grind.{common_steps}
 use Rattle.vm_pages.proofs.PageSets.{contains-no_pages}
 use Rattle.vm_sampling.specs.Counts.{AreCounts, draws_of}
+use Rattle.vm_sampling.specs.Drawn.{Drawn}
 use Rattle.vm_sampling.specs.SamplerFields.{AreSamples}
 use Rattle.vm_pages.specs.Pages.{no_pages, contains, insert}
 
@@ -44,42 +45,26 @@ no_hits (p ∷ drawn) size =
     rw missed (no_hits drawn size)
 
 -- pages that were just drawn, none of them touched yet
-pub AreSamples-drawn : (drawn counts : List ℕ) (touched : List Bool) → 0 < length drawn → length drawn ≤ 1000
-    → 0 < length counts → length counts ≤ 262144 → All (λ page. page < length counts) drawn → AreCounts drawn counts
-    → touched ≡ no_pages (length counts) → AreSamples drawn counts touched 0
-AreSamples-drawn drawn counts touched some few pages most within are untouched =
-    let same : length counts ≡ length touched = grind (arith, common_steps) in
+pub AreSamples-drawn : (drawn : Drawn) (touched : List Bool) → 0 < length drawn.pages → length drawn.pages ≤ 1000
+    → touched ≡ no_pages drawn.size → AreSamples drawn touched 0
+AreSamples-drawn drawn touched some few untouched =
     record {
       some_drawn = some;
       few_drawn = few;
-      some_pages = omega arith;
-      few_pages = omega arith;
-      are_pages = rw (← same) within;
-      same_pages = same;
-      counted = are;
-      counted_hits = rw untouched (no_hits drawn (length counts));
+      same_pages = sym (ap length untouched ∙ length-replicate drawn.size false);
+      counted_hits = rw untouched (no_hits drawn.pages drawn.size);
     }
 
 -- a page that was not touched before is touched
-pub AreSamples-touched : (drawn counts : List ℕ) (touched : List Bool) (hits page : ℕ) → page < length touched
-    → contains touched page ≡ false → AreSamples drawn counts touched hits
-    → AreSamples drawn counts (insert touched page) (hits + get_or counts page 0)
-AreSamples-touched drawn counts touched hits page within untouched are =
+pub AreSamples-touched : (drawn : Drawn) (touched : List Bool) (hits page : ℕ) → page < length touched
+    → contains touched page ≡ false → AreSamples drawn touched hits
+    → AreSamples drawn (insert touched page) (hits + draws_of drawn.pages page)
+AreSamples-touched drawn touched hits page within untouched are =
     let same = length-set touched page true in
-    let more = count_by-contains-insert drawn touched page within untouched in
-    let counted : get_or counts page 0 ≡ draws_of drawn page = are.counted page (omega (arith, are.same_pages)) in
+    let more = count_by-contains-insert drawn.pages touched page within untouched in
     record {
       some_drawn = are.some_drawn;
       few_drawn = are.few_drawn;
-      some_pages = omega (arith, same, are.some_pages);
-      few_pages = omega (arith, same, are.few_pages);
-      are_pages = rw same are.are_pages;
       same_pages = omega (arith, same, are.same_pages);
-      counted = are.counted;
-      counted_hits = omega (arith, more, counted, are.counted_hits);
+      counted_hits = omega (arith, more, are.counted_hits);
     }
-
--- no more draws hit a page than there are
-pub hits-le : (drawn counts : List ℕ) (touched : List Bool) (hits : ℕ) → AreSamples drawn counts touched hits → hits ≤ 1000
-hits-le drawn counts touched hits are =
-    omega (arith, are.counted_hits, are.few_drawn, count_by-le-length (λ p. contains touched p) drawn)

@@ -1,11 +1,12 @@
-ghost use Rattle.std.specs.Prelude.{◌≡◌, ◌+◌, ◌*◌, ◌/◌, ◌<◌, ◌≤◌, [], All, IfOk, OnErr, length};
+ghost use Rattle.std.specs.Prelude.{◌≡◌, ◌+◌, ◌*◌, ◌/◌, ◌<◌, ◌≤◌, IfOk, OnErr, length};
 ghost use Rattle.vm_pages.specs.Pages.{no_pages};
-ghost use Rattle.vm_sampling.specs.Words.{words_after, draws};
-ghost use Rattle.vm_sampling.specs.Counts.{AreCounts};
+ghost use Rattle.vm_sampling.specs.Words.{words_after};
 ghost use Rattle.vm_sampling.specs.Marks.{marked, AreMarksUpTo};
 ghost use Rattle.vm_sampling.specs.Sampling.{sampler_of, with_touch, stepped, words_after_step, active, whole};
+ghost use Rattle.vm_sampling.specs.Idle.{fast_after, periods_ended, sampler_after, slow_after, words_after_steps};
 
 use crate::Words;
+use crate::draws::Draws;
 use std::alloc::{AllocError, Global};
 use std::marker::Model;
 
@@ -16,17 +17,17 @@ const WHOLE: u32 = 65536;
 ///
 /// Clauses read it as `Sampling` of `specs/Sampling.antt`. No call but [`Sampler::new`] takes memory.
 ///
-/// A touch, a step within a period and [`Sampler::active`] take constant time. The step that ends a period takes time for its
-/// draws alone: the touched pages are marked with the number of the period, so none has to be cleared.
+/// A step, a touch and [`Sampler::active`] take constant time, and so do idle steps at once, but for a logarithm of their number.
+/// The first touch of a period alone takes time for the period's draws, which are left until then. The touched pages are marked
+/// with the number of the period, so none has to be cleared but once in 65535 periods, when the numbers begin anew. A page takes
+/// four bytes.
 #[derive(Debug, Drop)]
 pub struct Sampler {
-    drawn: Vec<u32>,
-    // How many of the draws gave each page.
-    draws_of: Vec<u32>,
-    // The number of the period in which each page was touched last.
-    touched_in: Vec<u64>,
-    // The number of this period.
-    number: u64,
+    draws: Draws,
+    // The number of the period in which each page was touched last, 0 for none.
+    touched_in: Vec<u16>,
+    // The number of this period. Idle periods that end at once have none.
+    number: u16,
     // How many of the draws gave a page that was touched in this period.
     hits: u32,
     period: u32,
@@ -66,13 +67,9 @@ impl Sampler {
         ensures words { IfOk result (λ _. words.new ≡ words_after n words.old) }
         ensures err { OnErr result (words.new ≡ words.old) }
     {
-        let mut drawn = vec![in alloc; 0u32; n as usize]?;
-        let mut draws_of = vec![in alloc; 0u32; size as usize]?;
-        let touched_in = vec![in alloc; 0u64; size as usize]?;
-        redraw(&mut drawn, &mut draws_of, words);
+        let touched_in = vec![in alloc; 0u16; size as usize]?;
         Ok(Sampler {
-            drawn,
-            draws_of,
+            draws: Draws::new(alloc, n, size, words)?,
             touched_in,
             number: 1,
             hits: 0,
@@ -88,10 +85,10 @@ impl Sampler {
         requires { page < self.old.size }
         ensures { self.new ≡ with_touch self.old page }
     {
-        let page = page as usize;
-        if self.touched_in[page] != self.number {
-            self.touched_in[page] = self.number;
-            self.hits += self.draws_of[page];
+        let place = page as usize;
+        if self.touched_in[place] != self.number {
+            self.touched_in[place] = self.number;
+            self.hits += self.draws.count_of(page);
         }
     }
 
@@ -101,17 +98,43 @@ impl Sampler {
         ensures sampler { self.new ≡ stepped self.old words.old }
         ensures words { words.new ≡ words_after_step self.old words.old }
     {
-        self.steps += 1;
-        if self.steps == self.period {
-            let fraction = fraction(self.hits, self.drawn.len());
-            self.slow = (7 * self.slow + fraction) / 8;
-            self.fast = (self.fast + fraction) / 2;
-            self.steps = 0;
-            self.hits = 0;
-            self.number = next_number(self.number, &mut self.touched_in);
-            clear_counts(&self.drawn, &mut self.draws_of);
-            redraw(&mut self.drawn, &mut self.draws_of, words);
+        if self.steps + 1 == self.period {
+            self.end_periods(0, words);
+        } else {
+            self.steps += 1;
         }
+    }
+
+    /// Takes note that the guest executed so many steps that touched no page, in time that grows as the logarithm of their number.
+    /// The sampler and the words become what [`Sampler::stepped`] makes of them step by step.
+    pub fn idle(&mut self, steps: u32, words: &mut Words)
+        ensures sampler { self.new ≡ sampler_after steps self.old words.old }
+        ensures words { words.new ≡ words_after_steps steps self.old words.old }
+    {
+        let left = self.period - self.steps;
+        if steps < left {
+            self.steps += steps;
+        } else {
+            let further = steps - left;
+            self.end_periods(further / self.period, words);
+            self.steps = further % self.period;
+        }
+    }
+
+    // This period ends, and so do `idle` further ones in which no page is touched. A touch can only hit the draws of the period
+    // after them: the words of the others are skipped.
+    fn end_periods(&mut self, idle: u32, words: &mut Words)
+        ensures sampler { self.new ≡ periods_ended idle self.old words.old }
+        ensures words { words.new ≡ words_after self.old.n (words_after (idle * self.old.n) words.old) }
+    {
+        let fraction = fraction(self.hits, self.draws.len());
+        self.slow = slow_after((7 * self.slow + fraction) / 8, idle);
+        self.fast = fast_after((self.fast + fraction) / 2, idle);
+        self.steps = 0;
+        self.hits = 0;
+        self.number = next_number(self.number, &mut self.touched_in);
+        words.skip(u64::from(idle) * self.draws.len() as u64);
+        self.draws.renew(words);
     }
 
     /// The fraction of the guest's pages that is in active use, in parts of 65536: the greatest of the slow average, the fast one,
@@ -120,7 +143,7 @@ impl Sampler {
         ensures value { result ≡ active self.now }
         ensures at_most_whole { result ≤ whole }
     {
-        let fraction = fraction(self.hits, self.drawn.len());
+        let fraction = fraction(self.hits, self.draws.len());
         self.slow.max(self.fast).max((self.fast + fraction) / 2)
     }
 }
@@ -136,48 +159,49 @@ fn fraction(hits: u32, draws: usize) -> u32
     hits * WHOLE / draws as u32
 }
 
-// The number of the period after this one, which no mark has. The marks are swept where the numbers begin anew, once in 2^64
-// periods.
-fn next_number(number: u64, marks: &mut [u64]) -> u64
+// The slow average after so many further periods without a hit. It reaches zero within 72 of them.
+fn slow_after(slow: u32, idle: u32) -> u32
+    requires { slow ≤ whole }
+    ensures value { result ≡ slow_after idle slow }
+    ensures at_most_whole { result ≤ whole }
+{
+    let mut average = slow;
+    for _ in 0..idle {
+        if average == 0 {
+            return 0;
+        }
+        average = 7 * average / 8;
+    }
+    average
+}
+
+// The fast average after so many further periods without a hit. It reaches zero within 17 of them.
+fn fast_after(fast: u32, idle: u32) -> u32
+    requires { fast ≤ whole }
+    ensures value { result ≡ fast_after idle fast }
+    ensures at_most_whole { result ≤ whole }
+{
+    let mut average = fast;
+    for _ in 0..idle {
+        if average == 0 {
+            return 0;
+        }
+        average /= 2;
+    }
+    average
+}
+
+// The number of the next period, which no mark has. The marks are swept where the numbers begin anew, once in 65535 periods.
+fn next_number(number: u16, marks: &mut [u16]) -> u16
     requires { AreMarksUpTo number marks.old }
     ensures empty { marked result marks.new ≡ no_pages (length marks.old) }
     ensures marks { AreMarksUpTo result marks.new }
 {
-    if number == u64::MAX {
+    if number == u16::MAX {
         marks.fill(0);
         return 1;
     }
     number + 1
-}
-
-// Takes the draws out of the counts, one by one.
-fn clear_counts(drawn: &[u32], draws_of: &mut [u32])
-    requires pages { All (λ page. page < length draws_of.old) drawn.now }
-    requires counted { AreCounts drawn.now draws_of.old }
-    ensures { AreCounts [] draws_of.new }
-{
-    for &page in drawn {
-        draws_of[page as usize] -= 1;
-    }
-}
-
-// Draws each of the pages anew, and counts how many of the draws give each page.
-fn redraw(drawn: &mut [u32], draws_of: &mut [u32], words: &mut Words)
-    requires few_draws { length drawn.old ≤ 1000 }
-    requires some_pages { 0 < length draws_of.old }
-    requires few_pages { length draws_of.old ≤ 262144 }
-    requires cleared { AreCounts [] draws_of.old }
-    ensures drawn { drawn.new ≡ draws (length drawn.old) (length draws_of.old) words.old }
-    ensures pages { All (λ page. page < length draws_of.old) drawn.new }
-    ensures counted { AreCounts drawn.new draws_of.new }
-    ensures words { words.new ≡ words_after (length drawn.old) words.old }
-{
-    let size = draws_of.len() as u32;
-    for place in drawn.iter_mut() {
-        let page = words.pick(size);
-        *place = page;
-        draws_of[page as usize] += 1;
-    }
 }
 
 #[cfg(test)]
@@ -190,18 +214,20 @@ mod tests {
     fn one_sample(rt: HostRuntime) -> Result<(), Fail> {
         let mut words = Words::new(42, 54);
         let mut sampler = Sampler::new(rt.alloc(), 1, 2, 4, &mut words)?;
-        assert_eq!(rt; sampler.drawn.as_slice(), [2].as_slice());
         assert!(rt; sampler.touched_in.len() == 4);
+        assert_eq!(rt; sampler.draws.count_of(2), 1);
         sampler.touch(2);
         sampler.stepped(&mut words);
         sampler.stepped(&mut words);
         assert_eq!(rt; sampler.active(), 65536);
-        assert_eq!(rt; sampler.drawn.as_slice(), [1].as_slice());
+        assert!(rt; sampler.touched_in.len() == 4);
+        assert_eq!(rt; sampler.draws.count_of(1), 1);
         sampler.stepped(&mut words);
         sampler.stepped(&mut words);
         assert_eq!(rt; (sampler.slow, sampler.fast), (57344, 32768));
         assert_eq!(rt; sampler.active(), 57344);
-        assert_eq!(rt; sampler.drawn.as_slice(), [2].as_slice());
+        assert!(rt; sampler.touched_in.len() == 4);
+        assert_eq!(rt; sampler.draws.count_of(2), 1);
         Ok(())
     }
 
@@ -215,6 +241,36 @@ mod tests {
             sampler.stepped(&mut words);
             assert_eq!(rt; sampler.active(), want);
         }
+        Ok(())
+    }
+
+    // The same, with the periods at once, and a fourth one begun.
+    #[test]
+    fn slow_decay_at_once(rt: HostRuntime) -> Result<(), Fail> {
+        let mut words = Words::new(0, 0);
+        let mut sampler = Sampler::new(rt.alloc(), 4, 2, 1, &mut words)?;
+        sampler.idle(7, &mut words);
+        assert_eq!(rt; (sampler.slow, sampler.fast), (43904, 8192));
+        assert_eq!(rt; sampler.steps, 1);
+        sampler.idle(0, &mut words);
+        assert_eq!(rt; sampler.active(), 43904);
+        Ok(())
+    }
+
+    // A touch counts in the period that ends first, and in no other; a touch after them counts with the draws of their last words.
+    // The draws are 2, 1, 2.
+    #[test]
+    fn touch_before_idle_steps(rt: HostRuntime) -> Result<(), Fail> {
+        let mut words = Words::new(42, 54);
+        let mut sampler = Sampler::new(rt.alloc(), 1, 2, 4, &mut words)?;
+        assert!(rt; sampler.touched_in.len() == 4);
+        sampler.touch(2);
+        sampler.idle(4, &mut words);
+        assert_eq!(rt; (sampler.slow, sampler.fast), (57344, 32768));
+        assert!(rt; sampler.touched_in.len() == 4);
+        sampler.touch(2);
+        sampler.idle(2, &mut words);
+        assert_eq!(rt; (sampler.slow, sampler.fast), (58368, 49152));
         Ok(())
     }
 
@@ -234,13 +290,25 @@ mod tests {
         Ok(())
     }
 
-    // A guest of the greatest size whose period is one step: each step costs one draw, not a pass over the pages.
+    // A guest of the greatest size whose period is one step: no step costs a pass over the pages.
     #[test]
     fn shortest_period(rt: HostRuntime) -> Result<(), Fail> {
         let mut words = Words::new(42, 54);
         let mut sampler = Sampler::new(rt.alloc(), 1, 1, 262144, &mut words)?;
         for _ in 0..100000 {
             sampler.stepped(&mut words);
+        }
+        assert_eq!(rt; sampler.active(), 0);
+        Ok(())
+    }
+
+    // As many idle steps as there can be, a thousand times.
+    #[test]
+    fn most_idle_steps(rt: HostRuntime) -> Result<(), Fail> {
+        let mut words = Words::new(42, 54);
+        let mut sampler = Sampler::new(rt.alloc(), 1000, 1, 262144, &mut words)?;
+        for _ in 0..1000 {
+            sampler.idle(u32::MAX, &mut words);
         }
         assert_eq!(rt; sampler.active(), 0);
         Ok(())

@@ -4,29 +4,28 @@ use Rattle.std.proofs.lemmas.List.{append-nil}
 use Rattle.std.specs.Io.KnownBytes.{Appends}
 use Rattle.vm_sim.specs.Streams.{AppendsFront}
 use Rattle.vm_sim.proofs.StreamLemmas.{Appends-then, Appends-then_front, AppendsFront-longer}
-use Rattle.vm_host.specs.World.{World}
-use Rattle.vm_sim.specs.Course.{world_from}
-use Rattle.vm_sim.specs.Report.{report_from, told_in_epochs, told_in_epoch, end_text}
+use Rattle.vm_sim.specs.Course.{Course, world_in}
+use Rattle.vm_sim.specs.Report.{end_text, report_in, told_at, told_before}
 
 -- more epochs make the report longer
-first_splits : (k d : ℕ) (first : World) → (more : List ℕ) × (told_in_epochs first (k + d) ≡ told_in_epochs first k ++ more)
-first_splits k zero first = ([], rw add-zero (sym (append-nil (told_in_epochs first k))))
-first_splits k (suc d) first =
-    let p = first_splits k d first in
-    let text = told_in_epoch (k + d) (world_from first (k + d)) in (
+first_splits : (course : Course) (k d : ℕ) → (more : List ℕ) × (told_before course (k + d) ≡ told_before course k ++ more)
+first_splits course k zero = ([], rw add-zero (sym (append-nil (told_before course k))))
+first_splits course k (suc d) =
+    let p = first_splits course k d in
+    let text = told_at course (k + d) in (
       p.0 ++ text,
-      rw (add-suc k d) (ap (λ (l : List ℕ). l ++ text) p.1 ∙ append_assoc (told_in_epochs first k) p.0 text),
+      rw (add-suc k d) (ap (λ (l : List ℕ). l ++ text) p.1 ∙ append_assoc (told_before course k) p.0 text),
     )
 
-pub report_at_epoch : (k epochs : ℕ) (first : World) → k < epochs
-    → (more : List ℕ) × (report_from first epochs ≡ told_in_epochs first k ++ (told_in_epoch k (world_from first k) ++ more))
-report_at_epoch k epochs first h =
-    let left = epochs - (k + 1) in
-    let whole : epochs ≡ suc k + left = omega arith in
-    let p = first_splits (suc k) left first in
-    let last = end_text (world_from first epochs) in (
+pub report_at_epoch : (course : Course) (k : ℕ) → k < course.epochs
+    → (more : List ℕ) × (report_in course ≡ told_before course k ++ (told_at course k ++ more))
+report_at_epoch course k h =
+    let left = course.epochs - (k + 1) in
+    let whole : course.epochs ≡ suc k + left = omega arith in
+    let p = first_splits course (suc k) left in
+    let last = end_text (world_in course course.epochs) in (
       p.0 ++ last,
-      ap (λ (n : ℕ). told_in_epochs first n ++ last) whole ∙ ap (λ (l : List ℕ). l ++ last) p.1
+      ap (λ (n : ℕ). told_before course n ++ last) whole ∙ ap (λ (l : List ℕ). l ++ last) p.1
           ∙ simp append_assoc,
     )
 
@@ -36,25 +35,23 @@ on_err (Ok x) p = tt
 on_err (Err e) p = p
 
 -- the epochs so far were told, and a front of the next one
-pub cut_in_epoch : {T E : Type 0} (r : Result T E) (x y z : Option (List ℕ)) (k epochs : ℕ) (first host : World)
-    → k < epochs → host ≡ world_from first k
-    → Appends x y (told_in_epochs first k) → AppendsFront y z (told_in_epoch k host) → OnErr r (AppendsFront x z (report_from first epochs))
-cut_in_epoch r x y z k epochs first host h is done front =
-    let p = report_at_epoch k epochs first h in
-    on_err r (rw p.1 (Appends-then_front x y z _ _ done (AppendsFront-longer y z _ p.0 (rw is at front))))
+pub cut_in_epoch : {T E : Type 0} (r : Result T E) (x y z : Option (List ℕ)) (course : Course) (k : ℕ)
+    → k < course.epochs → Appends x y (told_before course k) → AppendsFront y z (told_at course k) → OnErr r (AppendsFront x z (report_in course))
+cut_in_epoch r x y z course k h done front =
+    let p = report_at_epoch course k h in
+    on_err r (rw p.1 (Appends-then_front x y z _ _ done (AppendsFront-longer y z _ p.0 front)))
 
 -- all epochs were told, and a front of the end
-pub cut_at_end : {T E : Type 0} (r : Result T E) (x y z : Option (List ℕ)) (k epochs : ℕ) (first host : World)
-    → k ≡ epochs → host ≡ world_from first k
-    → Appends x y (told_in_epochs first k) → AppendsFront y z (end_text host) → OnErr r (AppendsFront x z (report_from first epochs))
-cut_at_end r x y z k epochs first host e is done front =
-    on_err r (subst (λ (n : ℕ). AppendsFront x z (report_from first n)) e (Appends-then_front x y z _ _ done (rw is at front)))
+pub cut_at_end : {T E : Type 0} (r : Result T E) (x y z : Option (List ℕ)) (course : Course) (k : ℕ)
+    → k ≡ course.epochs → Appends x y (told_before course k) → AppendsFront y z (end_text (world_in course k)) → OnErr r (AppendsFront x z (report_in course))
+cut_at_end r x y z course k e done front =
+    on_err r (subst (λ (n : ℕ). AppendsFront x z (told_before course n ++ end_text (world_in course n))) e (Appends-then_front x y z _ _ done front))
 
 -- all epochs were told, and the end
-pub told_all : (x y z : Option (List ℕ)) (k epochs : ℕ) (first : World) → k ≡ epochs
-    → Appends x y (told_in_epochs first k) → Appends y z (end_text (world_from first k)) → Appends x z (report_from first epochs)
-told_all x y z k epochs first e done last =
-    subst (λ (n : ℕ). Appends x z (report_from first n)) e (Appends-then x y z _ _ done last)
+pub told_all : (x y z : Option (List ℕ)) (course : Course) (k : ℕ) → k ≡ course.epochs
+    → Appends x y (told_before course k) → Appends y z (end_text (world_in course k)) → Appends x z (report_in course)
+told_all x y z course k e done last =
+    subst (λ (n : ℕ). Appends x z (told_before course n ++ end_text (world_in course n))) e (Appends-then x y z _ _ done last)
 
 -- a front of the first of two texts was written
 pub err_in_first : {T E : Type 0} (r : Result T E) (x y : Option (List ℕ)) (a b : List ℕ) → AppendsFront x y a → OnErr r (AppendsFront x y (a ++ b))

@@ -1,7 +1,7 @@
 pub mod StreamLemmas
-pub mod ValueLemmas
-pub mod TextLemmas
 pub mod FrontLemmas
 pub mod PositionLemmas
-pub mod DomainLemmas
-pub mod WrittenLemmas
+pub mod CourseLemmas
+pub mod HeadlineLemmas
+pub mod MigrationLemmas
+pub mod SteppingLemmas

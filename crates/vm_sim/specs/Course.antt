@@ -1,33 +1,107 @@
--- The course of a run: its boundaries and epochs, one after the other.
-use Rattle.std.specs.Prelude.{ℕ, zero, suc, List, [], ◌++◌, codes, map}
-use Rattle.vm_host.specs.Boundary.{bounded}
-use Rattle.vm_host.specs.Domains.{Domain}
+-- The course of a run: its boundaries and epochs, one after the other, with one worker that serves the guests in order.
+use Rattle.std.specs.Prelude.{ℕ, zero, suc, ◌==◌, Bool, true, false, List, [], ◌∷◌, ◌++◌, codes, if◌then◌else◌}
+use Rattle.vm_config.specs.declared.config.Config.{Config}
+use Rattle.vm_config.specs.Schedule.{ScheduledLine}
+use Rattle.vm_host.specs.declared.boundary.Boundary.{Boundary}
+use Rattle.vm_host.specs.Boundary.{bounded_by, boundary_by}
 use Rattle.vm_host.specs.Epoch.{after_epoch}
 use Rattle.vm_host.specs.World.{World, first_world}
-use Rattle.vm_sim.specs.declared.config.Config.{Config}
+use Rattle.vm_reclaim.specs.Policy.{Policy, policy_of}
+use Rattle.vm_runs.specs.Course.{Run, host_after, host_left, told_by}
+use Rattle.vm_sim.specs.declared.agenda.Agenda.{Agenda}
+
+-- ---- the lines of a boundary
 
 -- the line that starts a domain (virsh start)
-abbrev pub start_line : Domain → List ℕ
-start_line domain = codes "start " ++ domain.name
+abbrev pub start_line : List ℕ → List ℕ
+start_line name = codes "start " ++ name
 
--- the lines of the boundary before epoch k: before the first one, each domain is started, in order
-abbrev pub lines_at : List Domain → ℕ → List (List ℕ)
-lines_at domains zero = map start_line domains
-lines_at domains (suc k) = []
+-- the lines that start the domains that start by themselves (virsh autostart)
+abbrev pub autostart_lines : List (List ℕ) → List Bool → List (List ℕ)
+autostart_lines (name ∷ names) (true ∷ flags) = start_line name ∷ autostart_lines names flags
+autostart_lines (name ∷ names) (false ∷ flags) = autostart_lines names flags
+autostart_lines (name ∷ names) [] = []
+autostart_lines [] flags = []
 
--- the host after epoch k, which begins with a boundary
-abbrev pub next_world : ℕ → World → World
-next_world k w = after_epoch (bounded w (lines_at w.domains k))
+-- the lines of an epoch, in the order of the configuration
+abbrev pub lines_of_epoch : ℕ → List ScheduledLine → List (List ℕ)
+lines_of_epoch k [] = []
+lines_of_epoch k (scheduled ∷ later) =
+    if scheduled.at == k then scheduled.line ∷ lines_of_epoch k later else lines_of_epoch k later
+
+-- the lines of the boundary before epoch k, for domains of these names
+abbrev pub lines_for : List (List ℕ) → Agenda → ℕ → List (List ℕ)
+lines_for names agenda zero = autostart_lines names agenda.autostart ++ lines_of_epoch 0 agenda.commands
+lines_for names agenda (suc k) = lines_of_epoch (suc k) agenda.commands
+
+-- ---- the hosts
+
+-- what a run depends on
+pub record Course : Type 0 where
+  -- by what the host decides
+  pub policy : Policy
+  -- the lines of the boundary before each epoch
+  pub lines : ℕ → List (List ℕ)
+  -- the host before the first epoch
+  pub first : World
+  -- how many epochs it has
+  pub epochs : ℕ
+
+-- the host after a boundary with these lines, and what it tells
+unfoldable pub after_boundary : Policy → List (List ℕ) → World → World
+after_boundary policy lines w = bounded_by policy w lines
+
+unfoldable pub told_by_boundary : Policy → List (List ℕ) → World → Boundary
+told_by_boundary policy lines w = boundary_by policy w lines
+
+-- the host after an epoch, which begins with a boundary
+abbrev pub next_world : Policy → List (List ℕ) → World → World
+next_world policy lines w = after_epoch (after_boundary policy lines w)
+
+-- the run: one worker serves the guests in order
+abbrev pub run_in : Course → Run
+run_in course = record {
+  first = course.first;
+  bound = λ k w. bounded_by course.policy w (course.lines k);
+  told = λ k w h. told_by course.policy w (course.lines k) h;
+  epochs = course.epochs;
+}
 
 -- the host after so many epochs
-abbrev pub world_from : World → ℕ → World
-world_from first zero = first
-world_from first (suc k) = next_world k (world_from first k)
+abbrev pub world_in : Course → ℕ → World
+world_in course k = host_after (run_in course) k
 
--- the host of a configuration before its first epoch
-abbrev pub first_world_of : Config → World
-first_world_of c = first_world c.machine c.domains
+-- ---- a configuration
 
--- the host of a configuration after so many epochs
+-- the course of a host that decides by the numbers of its machine
+abbrev pub course_from : ℕ → Agenda → World → Course
+course_from epochs agenda w = record {
+  policy = policy_of w.machine;
+  lines = lines_for w.names agenda;
+  first = w;
+  epochs = epochs;
+}
+
+-- what a configuration asks
+abbrev pub agenda_of : Config → Agenda
+agenda_of c = record { autostart = c.autostart; commands = c.commands }
+
+-- the course of a configuration
+abbrev pub course_of : Config → Course
+course_of c = course_from c.epochs (agenda_of c) (first_world c.machine c.domains)
+
+-- the same by another policy
+abbrev pub course_by : Policy → Config → Course
+course_by policy c = record (course_of c) { policy = policy }
+
+-- the lines of the boundary before epoch k
+abbrev pub lines_at : Config → ℕ → List (List ℕ)
+lines_at c k = (course_of c).lines k
+
+-- the host after so many epochs
 abbrev pub world_after : Config → ℕ → World
-world_after c k = world_from (first_world_of c) k
+world_after c k = world_in (course_of c) k
+
+-- the host that the boundary before epoch k leaves
+abbrev pub ready_world : Config → ℕ → World
+ready_world c k = host_left (run_in (course_of c)) (suc k)

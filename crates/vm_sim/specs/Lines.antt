@@ -1,16 +1,17 @@
 -- The lines of a report. Each ends with a line feed, and numbers are decimal.
-use Rattle.std.specs.Prelude.{ℕ, ◌+◌, ◌/◌, ◌%◌, List, [], ◌∷◌, ◌++◌, codes, if◌then◌else◌, nat_lt}
+use Rattle.std.specs.Prelude.{ℕ, ◌+◌, ◌/◌, ◌%◌, List, [], ◌∷◌, ◌++◌, codes, if◌then◌else◌, nat_lt, Option, Some, None}
 use Rattle.std.specs.List.{flat_map}
 use Rattle.std.specs.Fmt.{decimal}
+use Rattle.vm_balloon.specs.declared.stats.Stats.{Stats}
 use Rattle.vm_guest.specs.declared.reads.PageRead.{PageRead}
 use Rattle.vm_guest.specs.declared.view.GuestView.{GuestView}
+use Rattle.vm_plan.specs.declared.state.State.{State}
+use Rattle.vm_plan.specs.declared.state.State.TheVariants.{High, Soft, Hard, Low}
+use Rattle.vm_host.specs.declared.boundary.DomainStatistics.{DomainStatistics}
 use Rattle.vm_host.specs.declared.boundary.Outcome.{Outcome}
-use Rattle.vm_host.specs.declared.boundary.Outcome.TheVariants.{Done, Refused}
+use Rattle.vm_host.specs.declared.boundary.Outcome.TheVariants.{Done, Refused, Shown}
 use Rattle.vm_host.specs.declared.boundary.Refusal.{Refusal}
-use Rattle.vm_host.specs.declared.boundary.Refusal.TheVariants.{NoSuchDomain, AlreadyRunning, BadLine, NoMemory}
-use Rattle.vm_host.specs.declared.state.State.{State}
-use Rattle.vm_host.specs.declared.state.State.TheVariants.{High, Soft, Hard, Low}
-use Rattle.vm_host.specs.Answers.{AnswerValue}
+use Rattle.vm_host.specs.declared.boundary.Refusal.TheVariants.{NoSuchDomain, AlreadyRunning, NotRunning, BadLine, BadSize, BelowMinimum, AboveMaximum, NoMemory, NoSwap}
 
 -- ---- commands
 
@@ -18,16 +19,61 @@ use Rattle.vm_host.specs.Answers.{AnswerValue}
 abbrev pub refusal_words : Refusal → List ℕ
 refusal_words NoSuchDomain = codes "1 no such domain"
 refusal_words AlreadyRunning = codes "2 already running"
+refusal_words NotRunning = codes "3 not running"
 refusal_words BadLine = codes "4 bad line"
+refusal_words BadSize = codes "5 bad size"
+refusal_words BelowMinimum = codes "6 below minimum"
+refusal_words AboveMaximum = codes "7 above maximum"
 refusal_words NoMemory = codes "8 no memory to reserve"
+refusal_words NoSwap = codes "9 no swap to reserve"
 
-unfoldable pub outcome_line : Outcome → List ℕ
-outcome_line Done = codes "ok\n"
-outcome_line (Refused refusal) = codes "error " ++ (refusal_words refusal ++ codes "\n")
+-- a name of virsh dommemstat, and its number
+unfoldable pub number_line : List ℕ → ℕ → List ℕ
+number_line name number = name ++ (codes " " ++ (decimal number ++ codes "\n"))
 
--- the line as it was given, and what became of it
-unfoldable pub answer_lines : AnswerValue → List ℕ
-answer_lines a = codes "> " ++ (a.line ++ (codes "\n" ++ outcome_line a.outcome))
+-- a count, if the driver told it
+abbrev pub count_line : List ℕ → Option ℕ → List ℕ
+count_line name None = []
+count_line name (Some count) = number_line name count
+
+-- a number of bytes in KiB, rounded down, if the driver told it
+abbrev pub memory_line : List ℕ → Option ℕ → List ℕ
+memory_line name None = []
+memory_line name (Some bytes) = number_line name (bytes / 1024)
+
+-- what the driver told of swapping and of faults
+unfoldable pub fault_lines : Stats → List ℕ
+fault_lines s =
+    memory_line (codes "swap_in") s.swap_in ++ (memory_line (codes "swap_out") s.swap_out
+    ++ (count_line (codes "major_fault") s.major_faults ++ count_line (codes "minor_fault") s.minor_faults))
+
+-- and of memory
+unfoldable pub memory_lines : Stats → List ℕ
+memory_lines s =
+    memory_line (codes "unused") s.free ++ (memory_line (codes "available") s.total ++ memory_line (codes "usable") s.available)
+
+-- virsh dommemstat
+unfoldable pub statistics_lines : DomainStatistics → List ℕ
+statistics_lines d =
+    number_line (codes "actual") d.actual ++ (fault_lines d.stats ++ (memory_lines d.stats ++ number_line (codes "rss") d.rss))
+
+unfoldable pub outcome_lines : Outcome → List ℕ
+outcome_lines Done = codes "ok\n"
+outcome_lines (Refused refusal) = codes "error " ++ (refusal_words refusal ++ codes "\n")
+outcome_lines (Shown statistics) = statistics_lines statistics
+
+-- the line as it was given
+unfoldable pub command_line : List ℕ → List ℕ
+command_line line = codes "> " ++ (line ++ codes "\n")
+
+-- ---- what happens to guests in a boundary
+
+-- what happens, the guest, and how often
+unfoldable pub move_line : List ℕ → List ℕ → ℕ → List ℕ
+move_line move name count = move ++ (codes " " ++ (name ++ (codes " " ++ (decimal count ++ codes "\n"))))
+
+unfoldable pub block_line : List ℕ → List ℕ
+block_line name = codes "block " ++ (name ++ codes "\n")
 
 -- ---- the machine's state
 

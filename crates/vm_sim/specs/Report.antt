@@ -2,31 +2,60 @@
 use Rattle.std.specs.Prelude.{ℕ, zero, suc, List, [], ◌++◌, codes, length, Option, Some, None, slice_get, unwrap_or}
 use Rattle.std.specs.List.{flat_map, range_with_len}
 use Rattle.std.specs.Fmt.{decimal}
+use Rattle.vm_config.specs.declared.config.Config.{Config}
 use Rattle.vm_guest.specs.Record.{GuestRecord}
 use Rattle.vm_guest.specs.View.{view_of}
 use Rattle.vm_host.specs.declared.boundary.Boundary.{Boundary}
-use Rattle.vm_host.specs.Boundary.{bounded, boundary_of}
-use Rattle.vm_host.specs.Domains.{names_of}
-use Rattle.vm_host.specs.Epoch.{after_epoch}
+use Rattle.vm_host.specs.Answers.{AnswerValue}
 use Rattle.vm_host.specs.Readers.{overhead_frames}
-use Rattle.vm_host.specs.World.{World, guest_at, total_held}
-use Rattle.vm_sim.specs.declared.config.Config.{Config}
-use Rattle.vm_sim.specs.Lines.{answer_lines, state_line, read_line, stall_line, guest_line}
-use Rattle.vm_sim.specs.Course.{lines_at, first_world_of, world_from}
+use Rattle.vm_host.specs.World.{World, guest_at}
+use Rattle.vm_plan.specs.declared.stretch.Stretch.{Stretch}
+use Rattle.vm_plan.specs.Stretches.{stretches_of}
+use Rattle.vm_pool.specs.Pool.{total_held}
+use Rattle.vm_reclaim.specs.declared.told.Paged.{Paged}
+use Rattle.vm_reclaim.specs.Policy.{Policy}
+use Rattle.vm_sim.specs.Course.{Course, after_boundary, course_by, course_of, next_world, told_by_boundary, world_in}
+use Rattle.vm_sim.specs.Lines.{block_line, command_line, guest_line, move_line, outcome_lines, read_line, stall_line, state_line}
 
 -- the positions of the domains
 abbrev pub positions : World → List ℕ
-positions w = range_with_len 0 (length w.domains)
+positions w = range_with_len 0 (length w.names)
 
 -- the name of the domain at a position
 abbrev pub name_at : World → ℕ → List ℕ
-name_at w position = unwrap_or (slice_get (names_of w.domains) position) []
+name_at w position = unwrap_or (slice_get w.names position) []
+
+-- ---- one boundary
+
+-- what happens to the guest of a stretch of equal positions
+abbrev pub stretch_line : List ℕ → World → Stretch → List ℕ
+stretch_line move w stretch = move_line move (name_at w stretch.position) stretch.count
+
+-- what happens to guests, one line for each stretch of equal positions
+abbrev pub move_lines : List ℕ → World → List ℕ → List ℕ
+move_lines move w moves = flat_map (stretch_line move w) (stretches_of moves)
+
+-- the line, the revocations that it needed, and what became of it
+unfoldable pub answer_lines : World → AnswerValue → List ℕ
+answer_lines w a = command_line a.line ++ (move_lines (codes "revoke") w a.revocations ++ outcome_lines a.outcome)
+
+-- a guest that gave up frames
+abbrev pub page_line : World → Paged → List ℕ
+page_line w paged = move_line (codes "page") (name_at w paged.position) paged.count
+
+-- a guest that is blocked
+abbrev pub block_line_at : World → ℕ → List ℕ
+block_line_at w position = block_line (name_at w position)
+
+-- what a boundary did: the number of its epoch, the answers to its lines, the state that it leaves, and what it took from guests and
+-- gave to them
+unfoldable pub boundary_text : ℕ → World → Boundary → List ℕ
+boundary_text k w b =
+    codes "epoch " ++ (decimal k ++ (codes "\n" ++ (flat_map (answer_lines w) b.answers
+    ++ (state_line b.state b.free ++ (move_lines (codes "revoke") w b.revoked ++ (flat_map (page_line w) b.paged
+    ++ (move_lines (codes "grant") w b.granted ++ flat_map (block_line_at w) b.blocked)))))))
 
 -- ---- one epoch
-
--- what a boundary did: the number of its epoch, the answers to its lines, and the state that it leaves
-unfoldable pub boundary_text : ℕ → World → Boundary → List ℕ
-boundary_text k w b = codes "epoch " ++ (decimal k ++ (codes "\n" ++ (flat_map answer_lines b.answers ++ state_line b.state b.free)))
 
 -- the reads of a guest, if it runs
 abbrev pub read_lines : List ℕ → Option GuestRecord → List ℕ
@@ -67,8 +96,8 @@ lines_at_end w position = guest_lines (name_at w position) (guest_at w position)
 
 unfoldable pub machine_line : World → List ℕ
 machine_line w =
-    codes "machine " ++ (decimal w.machine.frames ++ (codes " held " ++ (decimal (total_held w.guests)
-    ++ (codes " free " ++ (decimal w.free ++ (codes " overhead " ++ (decimal (overhead_frames w) ++ codes "\n")))))))
+    codes "machine " ++ (decimal w.machine.frames ++ (codes " held " ++ (decimal (total_held w.pool.guests)
+    ++ (codes " free " ++ (decimal w.pool.free ++ (codes " overhead " ++ (decimal (overhead_frames w) ++ codes "\n")))))))
 
 -- each running guest, and the machine
 unfoldable pub end_text : World → List ℕ
@@ -76,25 +105,31 @@ end_text w = codes "end\n" ++ (flat_map (lines_at_end w) (positions w) ++ machin
 
 -- ---- a whole run
 
--- what is told of the boundary before epoch k
-unfoldable pub boundary_told : ℕ → World → List ℕ
-boundary_told k w =
-    let lines = lines_at w.domains k in
-    boundary_text k (bounded w lines) (boundary_of w lines)
+-- what is told of the boundary before epoch k, which finds this host
+unfoldable pub boundary_told : ℕ → Policy → List (List ℕ) → World → List ℕ
+boundary_told k policy lines w = boundary_text k (after_boundary policy lines w) (told_by_boundary policy lines w)
 
 -- what is told of epoch k: of its boundary, and of what its guests did
-unfoldable pub told_in_epoch : ℕ → World → List ℕ
-told_in_epoch k w = boundary_told k w ++ epoch_text (after_epoch (bounded w (lines_at w.domains k)))
+unfoldable pub told_in_epoch : ℕ → Policy → List (List ℕ) → World → List ℕ
+told_in_epoch k policy lines w = boundary_told k policy lines w ++ epoch_text (next_world policy lines w)
 
--- what is told of so many epochs from a first host on
-abbrev pub told_in_epochs : World → ℕ → List ℕ
-told_in_epochs first zero = []
-told_in_epochs first (suc k) = told_in_epochs first k ++ told_in_epoch k (world_from first k)
+-- the same of a course
+abbrev pub told_at : Course → ℕ → List ℕ
+told_at course k = told_in_epoch k course.policy (course.lines k) (world_in course k)
 
--- so many epochs, and the end
-abbrev pub report_from : World → ℕ → List ℕ
-report_from first epochs = told_in_epochs first epochs ++ end_text (world_from first epochs)
+-- what is told of so many epochs
+abbrev pub told_before : Course → ℕ → List ℕ
+told_before course zero = []
+told_before course (suc k) = told_before course k ++ told_at course k
+
+-- the epochs, and the end
+abbrev pub report_in : Course → List ℕ
+report_in course = told_before course course.epochs ++ end_text (world_in course course.epochs)
 
 -- the report of a configuration
 abbrev pub report_of : Config → List ℕ
-report_of c = report_from (first_world_of c) c.epochs
+report_of c = report_in (course_of c)
+
+-- the same by another policy
+abbrev pub report_by : Policy → Config → List ℕ
+report_by policy c = report_in (course_by policy c)

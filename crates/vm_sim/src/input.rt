@@ -1,5 +1,5 @@
 // Reading all of a source, up to a limit.
-ghost use Rattle.std.specs.Prelude.{◌≡◌, ◌<◌, ◌≤◌, ◌+◌, ◌^◌, ℕ, List, length, IfOk, IfSome, OnOk, Err, vec_len, true};
+ghost use Rattle.std.specs.Prelude.{◌≡◌, ◌⊎◌, ◌<◌, ◌≤◌, ◌+◌, ◌^◌, ℕ, List, length, IfOk, IfSome, OnOk, Err, vec_len, true};
 ghost use Rattle.std.specs.Io.KnownBytes.{Consumes, IsAtEnd};
 ghost use Rattle.vm_sim.specs.declared.input.InputError.TheVariants.{Failed, TooLong};
 
@@ -30,7 +30,7 @@ pub(crate) fn read_input<R: Source>(
     ensures short { IfOk result (λ input. vec_len input ≤ limit) }
     ensures failure { result ≡ Err Failed → R.has_failed reader.new ≡ true }
     ensures too_long { result ≡ Err TooLong → IfSome (R.remaining reader.old) (λ bytes. limit < length bytes) }
-    ensures stays { OnOk result (R.has_failed reader.new ≡ R.has_failed reader.old) }
+    ensures stays { (result ≡ Err Failed) ⊎ (R.has_failed reader.new ≡ R.has_failed reader.old) }
     ensures at_most { (taken : List ℕ) × Consumes (R.remaining reader.old) (R.remaining reader.new) taken × (length taken ≤ limit + 1) }
 {
     let mut input = Vec::new(alloc);

@@ -1,21 +1,35 @@
-// What the reads of a report show.
-ghost use Rattle.std.specs.Prelude.{◌≡◌, ◌+◌, ℕ};
-ghost use Rattle.vm_host.specs.History.{happenings_at};
-ghost use Rattle.vm_host.specs.World.{guest_at};
-ghost use Rattle.vm_sim.specs.declared.config.Config.{Config};
+// What holds of every run.
+ghost use Rattle.std.specs.Prelude.{◌≡◌, ℕ};
+ghost use Rattle.vm_config.specs.declared.config.Config.{Config};
+ghost use Rattle.vm_config.specs.Limits.{IsConfig};
+ghost use Rattle.vm_config.specs.Migration.{migrated};
 ghost use Rattle.vm_sim.specs.Course.{world_after};
-ghost use Rattle.vm_sim.specs.Limits.{AreWithinLimits};
-ghost use Rattle.vm_sim.specs.LastWrites.{world_before, history_before, reads_shown, reads_of_last_writes};
+ghost use Rattle.vm_sim.specs.Headline.{AddsUp, ReadsLastWrites, RevokesFairly};
+ghost use Rattle.vm_sim.specs.Migration.{converted, report_by_percents, world_by_percents};
+ghost use Rattle.vm_sim.specs.Report.{report_of};
 
-use vm_guest::law_last_write;
+use vm_host::law_boundary;
+use vm_plan::law_scales;
+use vm_runs::law_course;
 
-/// Each read of a run gives the bytes that were last written: after each epoch of a configuration, the reads that the host
-/// shows of each guest, which the report tells line by line, are those of the last writes over what happened to the guest
-/// before. A start, a free of a page and an accepted inflate of it write zeros.
-pub fn law_reads()
-    ensures { (c : Config) (k position : ℕ) → AreWithinLimits c.domains
-        → reads_shown (world_after c (k + 1)) position
-        ≡ reads_of_last_writes (happenings_at (history_before c k) position) (guest_at (world_before c k) position) }
+/// The run of each configuration, where one worker serves the guests in order: each read gives the bytes that were last written
+/// there (`reads`); frames free, held by guests and set aside for them add up to the machine at each boundary and after each epoch
+/// (`conservation`); each revocation takes from a guest above its minimum whose adjusted ratio of shares to pages is least
+/// (`revocations`).
+pub fn law_runs()
+    ensures reads { (c : Config) → IsConfig c → ReadsLastWrites c }
+    ensures conservation { (c : Config) → IsConfig c → AddsUp c }
+    ensures revocations { (c : Config) → IsConfig c → RevokesFairly c }
 {
-    law_last_write();
+    law_boundary();
+    law_course();
+}
+
+/// A configuration of version 1 and the one that it stands for run alike: by the formulas of whole percents its hosts are those of
+/// the migrated configuration, but for how the machine's tax and percents are written, and its report is the same text.
+pub fn law_migration()
+    ensures hosts { (c : Config) (k : ℕ) → world_after (migrated c) k ≡ converted (world_by_percents c k) }
+    ensures report { (c : Config) → report_of (migrated c) ≡ report_by_percents c }
+{
+    law_scales();
 }

@@ -1,37 +1,38 @@
 //! From the text of a configuration to the report of its run.
 //!
-//! [`run`] reads a configuration from a [`Source`], runs the guests that it names on a host, and writes the report to a
-//! [`Sink`]. [`read_config`] reads a configuration alone, and [`boundary_text`], [`epoch_text`] and [`end_text`] are the
-//! parts of a report. Its contracts speak of plain data: `specs/Reading.antt` has the configuration that a text means,
-//! `specs/Course.antt` the hosts of a run, and `specs/Report.antt` the report, as one text.
+//! [`run`] reads a configuration from a [`Source`], runs the guests that it names on a host, on any number of workers, and writes
+//! the report to a [`Sink`]. [`boundary_text`], [`epoch_text`] and [`end_text`] are the parts of a report. The configuration and its
+//! reader are those of `vm_config`.
+//!
+//! A clause speaks of plain data: `specs/Course.antt` has the hosts of a run, one worker serving guests in order, and
+//! `specs/Report.antt` the report, as one text. `specs/Lines.antt` has its lines, and `specs/Stretches.antt` of `vm_plan` the
+//! stretches of equal positions that a line stands for. `specs/Run.antt` says what a run does to its reader and its writer.
 #![tactic(auto)]
 
-mod config;
-mod error;
-mod guests;
+mod agenda;
+mod crew;
 mod input;
-mod keys;
 mod law;
 mod lines;
-mod names;
+mod moves;
 mod output;
-mod reading;
 mod report;
 mod run_error;
 mod simulation;
+mod stepping;
 mod stream;
-mod trace;
+#[cfg(test)]
+mod tests;
 
-pub use config::Config;
-pub use error::ConfigError;
-pub use law::law_reads;
-pub use reading::read_config;
+pub use law::{law_migration, law_runs};
+pub use output::{WriteFailed, write_text};
 pub use report::{boundary_text, end_text, epoch_text};
 pub use run_error::RunError;
 pub use simulation::run;
+pub use stepping::SteppedRun;
 pub use stream::{Sink, Source, Watched};
-pub use vm_host::Host;
-pub use vm_trace::TraceError;
-
-#[cfg(test)]
-mod tests;
+pub use vm_config::{
+    Autostart, Config, ConfigError, ConfigV1, Domains, Fault, Key, MachineSpec, Part, Place,
+    Schedule, Scheduled, TraceError, explain, migrate, read_config, read_config_v1,
+};
+pub use vm_host::{Boundary, Gate, Host, Lines, Open};

@@ -1,11 +1,12 @@
 // The lines of a report.
 ghost use Rattle.std.specs.Prelude.{◌≡◌, ◌++◌, ◌<◌, OnOk, string_bytes};
 ghost use Rattle.std.specs.List.{flat_map};
-ghost use Rattle.vm_sim.specs.Lines.{refusal_words, outcome_line, answer_lines, state_word, state_line, hex_digit, hex_byte, hex, read_line, stall_line, guest_line};
+ghost use Rattle.vm_sim.specs.Lines.{block_line, command_line, count_line, fault_lines, guest_line, hex, hex_byte, hex_digit, memory_line, memory_lines, move_line, number_line, outcome_lines, read_line, refusal_words, stall_line, state_line, state_word, statistics_lines};
 
 use std::alloc::AllocError;
+use vm_balloon::Stats;
 use vm_guest::{GuestView, PageRead};
-use vm_host::{Answer, Outcome, Refusal, State};
+use vm_host::{DomainStatistics, Outcome, Refusal, State};
 
 // ---- commands
 
@@ -16,15 +17,80 @@ fn refusal_words(refusal: Refusal) -> &'static str
     match refusal {
         Refusal::NoSuchDomain => "1 no such domain",
         Refusal::AlreadyRunning => "2 already running",
+        Refusal::NotRunning => "3 not running",
         Refusal::BadLine => "4 bad line",
+        Refusal::BadSize => "5 bad size",
+        Refusal::BelowMinimum => "6 below minimum",
+        Refusal::AboveMaximum => "7 above maximum",
         Refusal::NoMemory => "8 no memory to reserve",
+        Refusal::NoSwap => "9 no swap to reserve",
     }
 }
 
+// A name of `virsh dommemstat`, and its number.
+#[tactic(auto, unfolding(crate::specs::Lines::number_line))]
+fn push_number(text: &mut String, name: &str, number: u64) -> Result<(), AllocError>
+    ensures { OnOk result (string_bytes text.new ≡ string_bytes text.old ++ number_line name.now number) }
+{
+    writeln!(text, "{name} {number}")
+}
+
+// A count, if the driver told it.
+fn push_count(text: &mut String, name: &str, count: Option<u64>) -> Result<(), AllocError>
+    ensures { OnOk result (string_bytes text.new ≡ string_bytes text.old ++ count_line name.now count) }
+{
+    match count {
+        Some(count) => push_number(text, name, count),
+        None => Ok(()),
+    }
+}
+
+// A number of bytes in KiB, rounded down, if the driver told it.
+fn push_memory(text: &mut String, name: &str, bytes: Option<u64>) -> Result<(), AllocError>
+    ensures { OnOk result (string_bytes text.new ≡ string_bytes text.old ++ memory_line name.now bytes) }
+{
+    match bytes {
+        Some(bytes) => push_number(text, name, bytes / 1024),
+        None => Ok(()),
+    }
+}
+
+// What the driver told of swapping and of faults.
+#[tactic(auto, unfolding(crate::specs::Lines::fault_lines))]
+fn push_faults(text: &mut String, stats: &Stats) -> Result<(), AllocError>
+    ensures { OnOk result (string_bytes text.new ≡ string_bytes text.old ++ fault_lines stats.now) }
+{
+    push_memory(text, "swap_in", stats.swap_in)?;
+    push_memory(text, "swap_out", stats.swap_out)?;
+    push_count(text, "major_fault", stats.major_faults)?;
+    push_count(text, "minor_fault", stats.minor_faults)
+}
+
+// What the driver told of memory.
+#[tactic(auto, unfolding(crate::specs::Lines::memory_lines))]
+fn push_memories(text: &mut String, stats: &Stats) -> Result<(), AllocError>
+    ensures { OnOk result (string_bytes text.new ≡ string_bytes text.old ++ memory_lines stats.now) }
+{
+    push_memory(text, "unused", stats.free)?;
+    push_memory(text, "available", stats.total)?;
+    push_memory(text, "usable", stats.available)
+}
+
+// What `virsh dommemstat` prints.
+#[tactic(auto, unfolding(crate::specs::Lines::statistics_lines))]
+fn push_statistics(text: &mut String, shown: &DomainStatistics) -> Result<(), AllocError>
+    ensures { OnOk result (string_bytes text.new ≡ string_bytes text.old ++ statistics_lines shown.now) }
+{
+    push_number(text, "actual", shown.actual)?;
+    push_faults(text, &shown.stats)?;
+    push_memories(text, &shown.stats)?;
+    push_number(text, "rss", shown.rss)
+}
+
 // What became of a command.
-#[tactic(auto, unfolding(crate::specs::Lines::outcome_line))]
-fn push_outcome(text: &mut String, outcome: Outcome) -> Result<(), AllocError>
-    ensures { OnOk result (string_bytes text.new ≡ string_bytes text.old ++ outcome_line outcome) }
+#[tactic(auto, unfolding(crate::specs::Lines::outcome_lines))]
+pub(crate) fn push_outcome(text: &mut String, outcome: Outcome) -> Result<(), AllocError>
+    ensures { OnOk result (string_bytes text.new ≡ string_bytes text.old ++ outcome_lines outcome) }
 {
     match outcome {
         Outcome::Done => text.push_str("ok\n"),
@@ -32,27 +98,39 @@ fn push_outcome(text: &mut String, outcome: Outcome) -> Result<(), AllocError>
             let words = refusal_words(refusal);
             writeln!(text, "error {words}")
         }
+        Outcome::Shown(shown) => push_statistics(text, &shown),
     }
 }
 
-// A command line, and what became of it.
-#[tactic(auto, unfolding(crate::specs::Lines::answer_lines))]
-fn push_answer(text: &mut String, answer: &Answer) -> Result<(), AllocError>
-    ensures { OnOk result (string_bytes text.new ≡ string_bytes text.old ++ answer_lines answer.now) }
+// A command line, as it was given.
+#[tactic(auto, unfolding(crate::specs::Lines::command_line))]
+pub(crate) fn push_command(text: &mut String, line: &str) -> Result<(), AllocError>
+    ensures { OnOk result (string_bytes text.new ≡ string_bytes text.old ++ command_line line.now) }
 {
-    let line = answer.line();
-    writeln!(text, "> {line}")?;
-    push_outcome(text, answer.outcome())
+    writeln!(text, "> {line}")
 }
 
-// Each command line, and what became of it.
-pub(crate) fn push_answers(text: &mut String, answers: &[Answer]) -> Result<(), AllocError>
-    ensures { OnOk result (string_bytes text.new ≡ string_bytes text.old ++ flat_map answer_lines answers.now) }
+// ---- what happens to guests in a boundary
+
+// What happens, the guest, and how often.
+#[tactic(auto, unfolding(crate::specs::Lines::move_line))]
+pub(crate) fn push_move(
+    text: &mut String,
+    word: &str,
+    name: &str,
+    count: u32,
+) -> Result<(), AllocError>
+    ensures { OnOk result (string_bytes text.new ≡ string_bytes text.old ++ move_line word.now name.now count) }
 {
-    for answer in answers {
-        push_answer(text, answer)?;
-    }
-    Ok(())
+    writeln!(text, "{word} {name} {count}")
+}
+
+// A guest that is blocked.
+#[tactic(auto, unfolding(crate::specs::Lines::block_line))]
+pub(crate) fn push_block(text: &mut String, name: &str) -> Result<(), AllocError>
+    ensures { OnOk result (string_bytes text.new ≡ string_bytes text.old ++ block_line name.now) }
+{
+    writeln!(text, "block {name}")
 }
 
 // ---- the machine's state

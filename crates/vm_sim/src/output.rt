@@ -5,12 +5,12 @@ ghost use Rattle.vm_sim.specs.Streams.{AppendsFront};
 
 use crate::stream::Sink;
 
-// The sink failed.
+/// The sink failed.
 #[derive(Clone, Copy, Debug, PartialEq, Eq)]
-pub(crate) struct WriteFailed;
+pub struct WriteFailed;
 
-// Writes the whole text, in as many writes as the sink asks for.
-pub(crate) fn write_text<W: Sink>(writer: &mut W, text: &[u8]) -> Result<(), WriteFailed>
+/// Writes the whole text, in as many writes as the sink asks for. Where the sink fails, a front of the text was written.
+pub fn write_text<W: Sink>(writer: &mut W, text: &[u8]) -> Result<(), WriteFailed>
     ensures written { OnOk result (Appends (W.contents writer.old) (W.contents writer.new) text.now) }
     ensures front { OnErr result (AppendsFront (W.contents writer.old) (W.contents writer.new) text.now) }
     ensures failure { OnErr result (W.has_failed writer.new ≡ true) }

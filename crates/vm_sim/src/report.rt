@@ -1,9 +1,10 @@
 // The report, piece by piece.
-ghost use Rattle.std.specs.Prelude.{◌≡◌, ◌++◌, IfOk, OnOk, string_bytes};
+ghost use Rattle.std.specs.Prelude.{◌≡◌, ◌++◌, IfOk, OnOk, codes, string_bytes};
 ghost use Rattle.vm_host.specs.World.{guest_at};
-ghost use Rattle.vm_sim.specs.Report.{boundary_text, reads_at, stall_in, stall_at, shown_at, epoch_text, lines_at_end, machine_line, end_text};
+ghost use Rattle.vm_sim.specs.Report.{boundary_text, end_text, epoch_text, lines_at_end, machine_line, reads_at, shown_at, stall_at, stall_in};
 
-use crate::lines::{push_answers, push_guest, push_reads, push_stall, push_state};
+use crate::lines::{push_guest, push_reads, push_stall, push_state};
+use crate::moves::{push_answers, push_blocked, push_moves, push_paged};
 use std::alloc::{AllocError, Global};
 use vm_host::{Boundary, Host};
 
@@ -12,21 +13,33 @@ use vm_host::{Boundary, Host};
 /// ```text
 /// epoch NUMBER
 /// > LINE                    for each command, and then its answer:
-/// ok                        or `error N TEXT`
+/// revoke NAME COUNT         for each guest whose target fell to make room for it
+/// ok                        or `error N TEXT`, or the lines of `virsh dommemstat`
 /// state STATE free FRAMES
+/// revoke NAME COUNT         for each guest whose target fell
+/// page NAME COUNT           for each guest that gave up frames
+/// grant NAME COUNT          for each guest whose target rose
+/// block NAME                for each guest that waits
 /// ```
+///
+/// `revoke` and `grant` have a line for each run of equal positions, and COUNT is how many pages it has. FRAMES are those that were
+/// free when the state was found. Positions are those of the host's domains.
 #[tactic(auto, unfolding(crate::specs::Report::boundary_text))]
 pub fn boundary_text(
     alloc: Global,
     number: u32,
-    _host: &Host,
+    host: &Host,
     boundary: &Boundary,
 ) -> Result<String, AllocError>
-    ensures { IfOk result (λ text. string_bytes text ≡ boundary_text number _host.now boundary.now) }
+    ensures { IfOk result (λ text. string_bytes text ≡ boundary_text number host.now boundary.now) }
 {
     let mut text = format!(in alloc; "epoch {number}\n")?;
-    push_answers(&mut text, boundary.answers.as_slice())?;
+    push_answers(&mut text, host, boundary.answers.as_slice())?;
     push_state(&mut text, boundary.state, boundary.free)?;
+    push_moves(&mut text, "revoke", host, &boundary.revoked)?;
+    push_paged(&mut text, host, boundary.paged.as_slice())?;
+    push_moves(&mut text, "grant", host, &boundary.granted)?;
+    push_blocked(&mut text, host, boundary.blocked.as_slice())?;
     Ok(text)
 }
 

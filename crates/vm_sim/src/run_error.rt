@@ -3,11 +3,11 @@ ghost use Rattle.std.specs.Prelude.{◌≡◌};
 ghost use Rattle.vm_sim.specs.RunErrors.{error_of_config, error_of_input};
 ghost use Rattle.vm_sim.specs.declared.run_error.RunError.TheVariants.{Memory, Write};
 
-use crate::error::ConfigError;
 use crate::input::InputError;
 use crate::output::WriteFailed;
 use std::alloc::AllocError;
 use thiserror::Error;
+use vm_config::ConfigError;
 use vm_host::HostError;
 
 /// Why a run stopped.
@@ -25,8 +25,8 @@ pub enum RunError {
     /// Memory was refused.
     #[error("out of memory")]
     Memory,
-    /// The number of workers isn't one that a run can have.
-    #[error("the number of workers is not 1")]
+    /// The number of workers is not 1 to 64.
+    #[error("the number of workers is not 1 to 64")]
     Workers,
 }
 

@@ -1,81 +1,42 @@
 // From bytes to a report.
-ghost use Rattle.std.specs.Prelude.{◌≡◌, ◌≢◌, ◌↔◌, ◌≤◌, ◌++◌, ◌∷◌, [], ℕ, List, length, map, codes, IfOk, IfErr, OnOk, OnErr, Err};
+ghost use Rattle.std.specs.Prelude.{◌≡◌, ◌≢◌, ◌↔◌, ◌⊎◌, ◌<◌, ◌≤◌, ℕ, List, length, IfOk, IfErr, OnOk, OnErr, Err};
 ghost use Rattle.std.specs.Io.KnownBytes.{Appends, Consumes};
-ghost use Rattle.vm_host.specs.declared.phase.Phase.TheVariants.{Waiting};
-ghost use Rattle.vm_host.specs.Boundary.{bounded};
+ghost use Rattle.vm_host.specs.declared.phase.Phase.TheVariants.{Ready, Waiting};
 ghost use Rattle.vm_host.specs.Epoch.{after_epoch};
-ghost use Rattle.vm_sim.specs.declared.run_error.RunError.TheVariants.{Workers};
-ghost use Rattle.vm_sim.specs.Course.{start_line, lines_at, next_world, world_from, world_after};
-ghost use Rattle.vm_sim.specs.Report.{name_at, boundary_told, epoch_text, told_in_epoch, report_from, report_of};
-ghost use Rattle.vm_sim.specs.Run.{Succeeds, Fails, CutShort};
+ghost use Rattle.vm_reclaim.specs.Policy.{policy_of};
+ghost use Rattle.vm_sim.specs.declared.run_error.RunError.TheVariants.{Read, Workers, Write};
+ghost use Rattle.vm_sim.specs.Course.{after_boundary, course_from, lines_for, next_world, told_by_boundary, world_after, world_in};
+ghost use Rattle.vm_sim.specs.Headline.{AddsUp, ReadsLastWrites, RevokesFairly};
+ghost use Rattle.vm_sim.specs.Report.{boundary_told, epoch_text, report_in, report_of, told_in_epoch};
+ghost use Rattle.vm_sim.specs.Run.{CutShort, Fails, NewlyFailed, RunsConfig};
 ghost use Rattle.vm_sim.specs.Streams.{AppendsFront};
 
-use crate::config::Config;
+use crate::agenda::{Agenda, lines_for};
+use crate::crew::Crew;
 use crate::input::read_input;
+use crate::law::law_runs;
 use crate::output::write_text;
-use crate::reading::read_config;
 use crate::report::{boundary_text, end_text, epoch_text};
 use crate::run_error::RunError;
 use crate::stream::{Sink, Source};
-use std::alloc::{AllocError, Global};
-use vm_host::{Host, Lines};
+use std::alloc::Global;
+use std::thread::Threads;
+use vm_config::{Config, read_config};
+use vm_host::{Boundary, Gate, Host, HostError, Lines};
 
 // The longest input.
-const MAX_INPUT: usize = 16_777_216;
+pub(crate) const MAX_INPUT: usize = 16_777_216;
 
-// The line that starts the domain at a position.
-fn push_start(
-    alloc: Global,
-    host: &Host,
-    position: usize,
-    lines: &mut Lines,
-) -> Result<(), AllocError>
-    ensures { OnOk result (lines.new ≡ lines.old ++ (codes "start " ++ name_at host.now position) ∷ []) }
-{
-    let name = host.name(position).unwrap_or("");
-    let line = format!(in alloc; "start {name}")?;
-    lines.push(&line)
-}
+const MAX_WORKERS: u32 = 64;
 
-// The lines that start each domain, in order.
-fn push_starts(alloc: Global, host: &Host, lines: &mut Lines) -> Result<(), AllocError>
-    ensures { OnOk result (lines.new ≡ lines.old ++ map start_line host.now.domains) }
+// A boundary with these lines.
+#[tactic(auto, unfolding(crate::specs::Course::after_boundary, crate::specs::Course::told_by_boundary))]
+pub(crate) fn boundary(alloc: Global, host: &mut Host, lines: &Lines) -> Result<Boundary, HostError>
+    ensures host { OnOk result (host.new ≡ after_boundary (policy_of host.old.machine) lines.now host.old) }
+    ensures told { IfOk result (λ told. told ≡ told_by_boundary (policy_of host.old.machine) lines.now host.old) }
+    ensures ready { OnOk result (host.new.phase ≡ Ready) }
 {
-    for position in 0..host.len() {
-        push_start(alloc, host, position, lines)?;
-    }
-    Ok(())
-}
-
-// The lines of the boundary before an epoch: before the first one, each domain is started.
-fn lines_at(alloc: Global, host: &Host, number: u32) -> Result<Lines, AllocError>
-    ensures { IfOk result (λ lines. lines ≡ lines_at host.now.domains number) }
-{
-    let mut lines = Lines::new(alloc);
-    if number == 0 {
-        push_starts(alloc, host, &mut lines)?;
-    }
-    Ok(lines)
-}
-
-// One epoch, and what is told of it.
-#[tactic(auto, unfolding(crate::specs::Report::told_in_epoch))]
-fn epoch<W: Sink>(
-    alloc: Global,
-    number: u32,
-    host: &mut Host,
-    writer: &mut W,
-) -> Result<(), RunError>
-    ensures host { OnOk result (host.new ≡ next_world number host.old) }
-    ensures written { OnOk result (Appends (W.contents writer.old) (W.contents writer.new)
-        (told_in_epoch number host.old)) }
-    ensures front { OnErr result (AppendsFront (W.contents writer.old) (W.contents writer.new)
-        (told_in_epoch number host.old)) }
-    ensures cause { IfErr result (CutShort (W.has_failed writer.new)) }
-{
-    tell_boundary(alloc, number, host, writer)?;
-    tell_epoch(alloc, host, writer)?;
-    Ok(())
+    host.boundary(alloc, lines)
 }
 
 // The boundary before an epoch, and what is told of it.
@@ -83,56 +44,93 @@ fn epoch<W: Sink>(
 fn tell_boundary<W: Sink>(
     alloc: Global,
     number: u32,
+    agenda: &Agenda,
     host: &mut Host,
     writer: &mut W,
 ) -> Result<(), RunError>
-    ensures host { OnOk result (host.new ≡ bounded host.old (lines_at host.old.domains number)) }
+    ensures host { OnOk result (host.new
+        ≡ after_boundary (policy_of host.old.machine) (lines_for host.old.names agenda.now number) host.old) }
+    ensures ready { OnOk result (host.new.phase ≡ Ready) }
     ensures written { OnOk result (Appends (W.contents writer.old) (W.contents writer.new)
-        (boundary_told number host.old)) }
+        (boundary_told number (policy_of host.old.machine) (lines_for host.old.names agenda.now number) host.old)) }
     ensures front { OnErr result (AppendsFront (W.contents writer.old) (W.contents writer.new)
-        (boundary_told number host.old)) }
-    ensures cause { IfErr result (CutShort (W.has_failed writer.new)) }
+        (boundary_told number (policy_of host.old.machine) (lines_for host.old.names agenda.now number) host.old)) }
+    ensures stays { OnOk result (W.has_failed writer.new ≡ W.has_failed writer.old) }
+    ensures cause { IfErr result (CutShort (W.has_failed writer.old) (W.has_failed writer.new)) }
 {
-    let lines = lines_at(alloc, host, number)?;
-    let boundary = host.boundary(alloc, &lines)?;
+    let lines = lines_for(alloc, host, agenda, number)?;
+    let boundary = boundary(alloc, host, &lines)?;
     let text = boundary_text(alloc, number, host, &boundary)?;
     write_text(writer, text.as_bytes())?;
     Ok(())
 }
 
 // The epoch of a host that is ready for it, and what is told of it.
-fn tell_epoch<W: Sink>(alloc: Global, host: &mut Host, writer: &mut W) -> Result<(), RunError>
+fn tell_epoch<RT: Threads + Sync, G: Gate + Sync, W: Sink>(
+    alloc: Global,
+    crew: &Crew<'_, RT, G>,
+    host: &mut Host,
+    writer: &mut W,
+) -> Result<(), RunError>
     requires ready { host.old.phase ≢ Waiting }
     ensures host { OnOk result (host.new ≡ after_epoch host.old) }
     ensures written { OnOk result (Appends (W.contents writer.old) (W.contents writer.new)
         (epoch_text (after_epoch host.old))) }
     ensures front { OnErr result (AppendsFront (W.contents writer.old) (W.contents writer.new)
         (epoch_text (after_epoch host.old))) }
-    ensures cause { IfErr result (CutShort (W.has_failed writer.new)) }
+    ensures stays { OnOk result (W.has_failed writer.new ≡ W.has_failed writer.old) }
+    ensures cause { IfErr result (CutShort (W.has_failed writer.old) (W.has_failed writer.new)) }
 {
-    host.epoch()?;
+    host.epoch(crew.rt, alloc, crew.gate, crew.workers)?;
     let text = epoch_text(alloc, host)?;
     write_text(writer, text.as_bytes())?;
     Ok(())
 }
 
-// All epochs of a new host, and what is told of them and of the end.
-#[tactic(auto, using(crate::proofs::FrontLemmas::told_all))]
-fn tell<W: Sink>(
+// A boundary with its epoch, and what is told of them.
+#[tactic(auto, unfolding(crate::specs::Report::told_in_epoch))]
+fn epoch<RT: Threads + Sync, G: Gate + Sync, W: Sink>(
     alloc: Global,
-    epochs: u32,
+    crew: &Crew<'_, RT, G>,
+    number: u32,
+    agenda: &Agenda,
     host: &mut Host,
     writer: &mut W,
 ) -> Result<(), RunError>
-    ensures host { OnOk result (host.new ≡ world_from host.old epochs) }
+    ensures host { OnOk result (host.new
+        ≡ next_world (policy_of host.old.machine) (lines_for host.old.names agenda.now number) host.old) }
     ensures written { OnOk result (Appends (W.contents writer.old) (W.contents writer.new)
-        (report_from host.old epochs)) }
+        (told_in_epoch number (policy_of host.old.machine) (lines_for host.old.names agenda.now number) host.old)) }
     ensures front { OnErr result (AppendsFront (W.contents writer.old) (W.contents writer.new)
-        (report_from host.old epochs)) }
-    ensures cause { IfErr result (CutShort (W.has_failed writer.new)) }
+        (told_in_epoch number (policy_of host.old.machine) (lines_for host.old.names agenda.now number) host.old)) }
+    ensures stays { OnOk result (W.has_failed writer.new ≡ W.has_failed writer.old) }
+    ensures cause { IfErr result (CutShort (W.has_failed writer.old) (W.has_failed writer.new)) }
+{
+    tell_boundary(alloc, number, agenda, host, writer)?;
+    tell_epoch(alloc, crew, host, writer)?;
+    Ok(())
+}
+
+// All epochs of a new host, and what is told of them and of the end.
+#[tactic(auto, using(crate::proofs::FrontLemmas::told_all))]
+fn tell<RT: Threads + Sync, G: Gate + Sync, W: Sink>(
+    alloc: Global,
+    crew: &Crew<'_, RT, G>,
+    epochs: u32,
+    agenda: &Agenda,
+    host: &mut Host,
+    writer: &mut W,
+) -> Result<(), RunError>
+    ensures host { OnOk result (host.new ≡ world_in (course_from epochs agenda.now host.old) epochs) }
+    ensures written { OnOk result (Appends (W.contents writer.old) (W.contents writer.new)
+        (report_in (course_from epochs agenda.now host.old))) }
+    ensures front { OnErr result (AppendsFront (W.contents writer.old) (W.contents writer.new)
+        (report_in (course_from epochs agenda.now host.old))) }
+    ensures stays { OnOk result (W.has_failed writer.new ≡ W.has_failed writer.old) }
+    ensures cause { IfErr result (CutShort (W.has_failed writer.old) (W.has_failed writer.new)) }
 {
     for number in 0..epochs {
-        epoch(alloc, number, host, writer)?;
+        epoch(alloc, crew, number, agenda, host, writer)?;
     }
     let told = end_text(alloc, host)?;
     write_text(writer, told.as_bytes())?;
@@ -140,18 +138,35 @@ fn tell<W: Sink>(
 }
 
 // A configuration is run to its end. A host that fails is closed.
-fn simulate<W: Sink>(alloc: Global, config: Config, writer: &mut W) -> Result<Host, RunError>
+fn simulate<RT: Threads + Sync, G: Gate + Sync, W: Sink>(
+    alloc: Global,
+    crew: &Crew<'_, RT, G>,
+    config: Config,
+    writer: &mut W,
+) -> Result<Host, RunError>
     ensures host { IfOk result (λ host. host ≡ world_after config config.epochs) }
     ensures written { IfOk result (λ _. Appends (W.contents writer.old) (W.contents writer.new)
         (report_of config)) }
     ensures front { OnErr result (AppendsFront (W.contents writer.old) (W.contents writer.new)
         (report_of config)) }
-    ensures cause { IfErr result (CutShort (W.has_failed writer.new)) }
+    ensures stays { OnOk result (W.has_failed writer.new ≡ W.has_failed writer.old) }
+    ensures cause { IfErr result (CutShort (W.has_failed writer.old) (W.has_failed writer.new)) }
 {
-    let Ok(mut host) = Host::new(alloc, config.machine, config.domains) else {
+    let Config {
+        machine,
+        epochs,
+        domains,
+        autostart,
+        commands,
+    } = config;
+    let agenda = Agenda {
+        autostart,
+        commands,
+    };
+    let Ok(mut host) = Host::new(alloc, machine, domains) else {
         return Err(RunError::Memory);
     };
-    match tell(alloc, config.epochs, &mut host, writer) {
+    match tell(alloc, crew, epochs, &agenda, &mut host, writer) {
         Ok(()) => Ok(host),
         Err(error) => {
             host.close();
@@ -163,8 +178,13 @@ fn simulate<W: Sink>(alloc: Global, config: Config, writer: &mut W) -> Result<Ho
 /// Reads a configuration to the reader's end, runs it, and writes its report: what each boundary did, what was read in each
 /// epoch, and the end, each written once it is there. The host that comes back shows the run's end. It has to be closed.
 ///
-/// The guests are served by one worker, in order: the number of workers has to be 1, else the answer is
-/// [`RunError::Workers`], before anything is read. At most 16777216 bytes are read, and one more.
+/// The guests of an epoch are served by at most `workers` threads, the caller's among them; each guest passes the gate. Whatever
+/// their number, the report and the host are those of one worker that serves the guests in order. In that run each read gives the
+/// last write there; frames free, held and set aside add up to the machine; and each revocation takes from a guest above its
+/// minimum whose adjusted ratio of shares to pages is least (Waldspurger, OSDI 2002, sections 5.1 and 5.2).
+///
+/// There are 1 to 64 workers, else the answer is [`RunError::Workers`], before anything is read. At most 16777216 bytes are read,
+/// and one more.
 ///
 /// | Error | Cause | What was written |
 /// |---|---|---|
@@ -174,26 +194,39 @@ fn simulate<W: Sink>(alloc: Global, config: Config, writer: &mut W) -> Result<Ho
 /// | [`RunError::Write`] | the writer failed | a front of the report |
 /// | [`RunError::Memory`] | memory was refused | a front of the report, or nothing |
 ///
-/// This is said for a reader and a writer that had not failed before.
-pub fn run<R: Source, W: Sink>(
+/// This is said for a reader and a writer that had not failed before. Where one of them fails in this call, the answer is
+/// [`RunError::Read`] for the reader and [`RunError::Write`] for the writer; so a host, and every other error, [`RunError::Memory`]
+/// too, says that neither failed.
+pub fn run<RT: Threads + Sync, G: Gate + Sync, R: Source, W: Sink>(
+    rt: &RT,
     alloc: Global,
+    gate: &G,
     workers: u32,
     reader: &mut R,
     writer: &mut W,
 ) -> Result<Host, RunError>
-    ensures workers { (result ≡ Err Workers) ↔ (¬ (workers ≡ 1)) }
-    ensures done { IfOk result (Succeeds (R.remaining reader.old) (R.remaining reader.new)
-        (W.contents writer.old) (W.contents writer.new)) }
+    ensures workers { (result ≡ Err Workers) ↔ ((workers < 1) ⊎ (64 < workers)) }
+    ensures report { OnOk result (RunsConfig (R.remaining reader.old) (R.remaining reader.new)
+        (λ config. Appends (W.contents writer.old) (W.contents writer.new) (report_of config))) }
+    ensures memory { IfOk result (λ host. RunsConfig (R.remaining reader.old) (R.remaining reader.new)
+        (λ config. host ≡ world_after config config.epochs)) }
+    ensures reads { OnOk result (RunsConfig (R.remaining reader.old) (R.remaining reader.new) ReadsLastWrites) }
+    ensures conservation { OnOk result (RunsConfig (R.remaining reader.old) (R.remaining reader.new) AddsUp) }
+    ensures revocations { OnOk result (RunsConfig (R.remaining reader.old) (R.remaining reader.new) RevokesFairly) }
     ensures failed { IfErr result (Fails (R.remaining reader.old) (R.remaining reader.new)
         (W.contents writer.old) (W.contents writer.new)
         16777216 (R.has_failed reader.new) (W.has_failed writer.new)) }
+    ensures reader_failed { NewlyFailed (R.has_failed reader.old) (R.has_failed reader.new) → result ≡ Err Read }
+    ensures writer_failed { NewlyFailed (W.has_failed writer.old) (W.has_failed writer.new) → result ≡ Err Write }
     ensures at_most { (taken : List ℕ) × Consumes (R.remaining reader.old) (R.remaining reader.new) taken
         × (length taken ≤ 16777217) }
 {
-    if workers != 1 {
+    if workers < 1 || workers > MAX_WORKERS {
         return Err(RunError::Workers);
     }
+    law_runs();
+    let crew = Crew { rt, gate, workers };
     let input = read_input(alloc, reader, MAX_INPUT)?;
     let config = read_config(alloc, &input)?;
-    simulate(alloc, config, writer)
+    simulate(alloc, &crew, config, writer)
 }

@@ -5,7 +5,7 @@ ghost use Rattle.std.specs.Io.KnownBytes.{ReadConsumes, WriteAppends};
 ghost use Rattle.vm_sim.specs.Streams.{refuses};
 
 use std::io;
-use std::io::{Read, Write};
+use std::io::{ErrorKind, Read, Write};
 
 /// Where bytes come from.
 ///
@@ -47,8 +47,36 @@ pub trait Sink {
         ensures { result ≡ has_failed self.now };
 }
 
+// One read, tried again where a signal interrupted it.
+fn read_retrying<R: Read>(reader: &mut R, buf: &mut [u8]) -> io::Result<usize>
+    ensures bound { ReadsAtMost result buf.new }
+    ensures bytes { ReadConsumes (R.remaining reader.old) (R.remaining reader.new) result buf.new }
+{
+    for _ in 0..u64::MAX {
+        match reader.read(buf) {
+            Err(error) if error.kind() == ErrorKind::Interrupted => {}
+            outcome => return outcome,
+        }
+    }
+    Err(io::Error::from(ErrorKind::Interrupted))
+}
+
+// One write, tried again where a signal interrupted it.
+fn write_retrying<W: Write>(writer: &mut W, buf: &[u8]) -> io::Result<usize>
+    ensures bound { WritesAtMost result buf.now }
+    ensures bytes { WriteAppends (W.contents writer.old) (W.contents writer.new) result buf.now }
+{
+    for _ in 0..u64::MAX {
+        match writer.write(buf) {
+            Err(error) if error.kind() == ErrorKind::Interrupted => {}
+            outcome => return outcome,
+        }
+    }
+    Err(io::Error::from(ErrorKind::Interrupted))
+}
+
 /// A reader or a writer of std, and whether it has failed since it was put in here. It is a [`Source`] over a reader, and a
-/// [`Sink`] over a writer.
+/// [`Sink`] over a writer. A call that a signal interrupted is tried again.
 #[derive(Drop)]
 pub struct Watched<T> {
     inner: T,
@@ -70,19 +98,26 @@ impl<T> Watched<T> {
     }
 }
 
+// Whether a reader or a writer has failed.
+fn has_failed<T>(watched: &Watched<T>) -> bool
+    ensures { result ≡ watched.now.has_failed }
+{
+    watched.has_failed
+}
+
 impl<R: Read> Source for Watched<R> {
     ghost remaining = { λ s. R.remaining s.inner };
 
     ghost has_failed = { λ s. s.has_failed };
 
     fn read(&mut self, buf: &mut [u8]) -> io::Result<usize> {
-        let result = self.inner.read(buf);
+        let result = read_retrying(&mut self.inner, buf);
         self.has_failed = self.has_failed || result.is_err();
         result
     }
 
     fn failed(&self) -> bool {
-        self.has_failed
+        has_failed(self)
     }
 }
 
@@ -92,7 +127,7 @@ impl<W: Write> Sink for Watched<W> {
     ghost has_failed = { λ s. s.has_failed };
 
     fn write(&mut self, buf: &[u8]) -> io::Result<usize> {
-        let result = self.inner.write(buf);
+        let result = write_retrying(&mut self.inner, buf);
         let is_refused = match &result {
             Ok(taken) => *taken == 0 && !buf.is_empty(),
             Err(_) => true,
@@ -102,6 +137,6 @@ impl<W: Write> Sink for Watched<W> {
     }
 
     fn failed(&self) -> bool {
-        self.has_failed
+        has_failed(self)
     }
 }

@@ -83,11 +83,14 @@ impl SwapArea {
 
     /// Makes room for `more` pages beside those that there is room for.
     ///
-    /// An `Err` means that its memory was refused, and changes nothing.
+    /// An `Err` means that its memory was refused, and changes nothing. It comes only for some pages more, below the
+    /// [`PAGE_LIMIT`] pages that a guest can have.
     pub fn grow(&mut self, more: u32) -> Result<(), AllocError>
         requires { self.old.capacity + more < 2 ^ 32 }
         ensures ok { OnOk result (self.new ≡ record self.old { capacity = self.old.capacity + more }) }
         ensures err { OnErr result (self.new ≡ self.old) }
+        ensures memory { OnErr result (0 < more) }
+        ensures below { OnErr result (self.old.capacity < PAGE_LIMIT) }
     {
         let capacity = self.capacity + more;
         self.slots

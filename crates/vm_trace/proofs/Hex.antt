@@ -1,7 +1,10 @@
 -- The bytes that pairs of hexadecimal digits spell, one by one.
-use Rattle.std.proofs.Common.{◌≡◌, ℕ, zero, suc, ◌+◌, ◌-◌, ◌*◌, ◌%◌, ◌<◌, true, List, [], ◌∷◌, ◌++◌, length, get_or, take, refl, ap, arith}
+use Rattle.std.proofs.Common.{◌≡◌, ◌∙◌, map, ℕ, zero, suc, ◌+◌, ◌-◌, ◌*◌, ◌%◌, ◌<◌, true, List, [], ◌∷◌, ◌++◌, length, get_or, take, refl, ap, arith}
 use Rattle.std.proofs.lemmas.Bool.{and_parts, eqb-true}
+use Rattle.std.proofs.lemmas.List.FromFn.{get_or-map-range_with_len}
 use Rattle.std.specs.Char.{digit_value}
+use Rattle.std.specs.List.{range_with_len}
+use Rattle.vm_trace.specs.declared.bytes.TheConstants.{DIGIT_VALUES}
 use Rattle.vm_trace.specs.Words.{hex_pairs, is_hex}
 
 -- the byte of the two digits from place k on
@@ -30,3 +33,11 @@ length-hex_pairs (a ∷ b ∷ ds) = omega (arith, length-hex_pairs ds)
 
 pub even_from_hex : (word : List ℕ) → is_hex word ≡ true → length word % 2 ≡ 0
 even_from_hex word is = eqb-true _ _ (and_parts _ _ is).0
+
+values_of_bytes : DIGIT_VALUES ≡ map digit_value (range_with_len 0 256)
+values_of_bytes = refl
+
+-- the table has the value of each byte
+pub value_in_table : (byte : ℕ) → byte < 256 → get_or DIGIT_VALUES byte 0 ≡ digit_value byte
+value_in_table byte small =
+    ap (λ values. get_or values byte 0) values_of_bytes ∙ get_or-map-range_with_len digit_value 0 256 byte byte 0 small (omega arith)

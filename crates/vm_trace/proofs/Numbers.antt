@@ -1,25 +1,53 @@
--- What the word of a number gives to `parse`.
-use Rattle.std.proofs.Common.{◌≡◌, ℕ, ◌≤◌, true, List, length, Result, Ok, arith, rules}
-use Rattle.std.proofs.lemmas.Bool.{and_parts, leb-true}
-use Rattle.std.proofs.lemmas.Str.Parse.{IsNumeralModel, numerals_by_value, digits_value_short, parse_gives}
+-- The number of a word, digit by digit.
+use Rattle.std.proofs.Common.{◌≡◌, ℕ, ◌+◌, ◌-◌, ◌*◌, ◌^◌, ◌<◌, ◌≤◌, ◌⊎◌, inl, inr, ◌&&◌, Bool, true, false, leb, List, length, take, get_or, Ok, Err, refl, ◌∙◌, arith, rules}
+use Rattle.std.proofs.lemmas.Bool.{le-leb, lt-leb, leb-true, and_parts}
+use Rattle.std.proofs.lemmas.Int.Digits.{digits_value_more}
+use Rattle.std.proofs.lemmas.List.{length-take-le}
+use Rattle.std.proofs.lemmas.List.Folds.{list_all_at, list_all_more}
+use Rattle.std.proofs.lemmas.Str.{digit_value_digit}
+use Rattle.std.proofs.lemmas.Str.Parse.{IsNumeralModel, numerals_by_value, digits_value_short}
 use Rattle.std.specs.Char.{is_ascii_digit}
 use Rattle.std.specs.List.{list_all}
-use Rattle.std.specs.Str.Parse.{ParsesUnsigned, digits_value}
-use Rattle.vm_trace.specs.Words.{is_number}
+use Rattle.std.specs.Str.Parse.{digits_value}
+use Rattle.vm_trace.specs.declared.error.TraceError.TheVariants.{Number}
+use Rattle.vm_trace.specs.Words.{number_of}
 
-pub decimal : IsNumeralModel (λ ds. list_all is_ascii_digit ds ≡ true) (digits_value 10)
+decimal : IsNumeralModel (λ ds. list_all is_ascii_digit ds ≡ true) (digits_value 10)
 decimal = numerals_by_value _ (search rules)
 
--- the parts of the test
-pub number_parts : (word : List ℕ) → is_number word ≡ true → (1 ≤ length word) × (length word ≤ 10) × (list_all is_ascii_digit word ≡ true)
-number_parts word is =
-    let front = and_parts _ _ is in
-    let sizes = and_parts _ _ front.0 in
-    (leb-true _ _ sizes.0, leb-true _ _ sizes.1, front.1)
+and_false : (b : Bool) → (b && false) ≡ false
+and_false true = refl
+and_false false = refl
 
--- 1 to 10 digits are below 2 ^ 64
-pub number_parses : {E : Type 0} (word : List ℕ) (r : Result ℕ E) → ParsesUnsigned 64 10 word r → is_number word ≡ true → r ≡ Ok (digits_value 10 word)
-number_parses word r h is =
-    let parts = number_parts word is in
-    let small = digits_value_short decimal word 10 parts.2 parts.1 in
-    parse_gives decimal 64 word r h parts.2 (omega (arith, parts.0)) (omega (arith, small))
+-- no digit, or too many
+pub number_of-length : (word : List ℕ) → (length word ≡ 0) ⊎ (10 < length word) → number_of word ≡ Err Number
+unfolding number_of
+number_of-length word wrong = elim wrong [
+  | inl none ↦ rw none refl
+  | inr many ↦ rw (lt-leb (length word) 10 many, and_false (leb 1 (length word))) refl
+]
+
+-- a character that is no digit
+pub number_of-no_digit : (word : List ℕ) (i : ℕ) → i < length word → is_ascii_digit (get_or word i 0) ≡ false → number_of word ≡ Err Number
+unfolding number_of
+number_of-no_digit word i below failed =
+    rw (list_all_at is_ascii_digit word i 0 below failed, and_false (leb 1 (length word) && leb (length word) 10)) refl
+
+-- digits alone
+pub number_of-digits : (word : List ℕ) → 1 ≤ length word → length word ≤ 10 → list_all is_ascii_digit word ≡ true → number_of word ≡ Ok (digits_value 10 word)
+unfolding number_of
+number_of-digits word some few digits = rw (le-leb 1 (length word) some, le-leb (length word) 10 few, digits) refl
+
+-- ten digits are below 2 ^ 64, and one more digit of ten is within it
+pub number_small : (word : List ℕ) (i : ℕ) → i ≤ length word → length word ≤ 10 → list_all is_ascii_digit (take i word) ≡ true → digits_value 10 (take i word) < 10 ^ 10
+number_small word i below few digits =
+    digits_value_short decimal (take i word) 10 digits (omega (arith, length-take-le i word below))
+
+pub digits_more : (word : List ℕ) (i : ℕ) → i < length word → list_all is_ascii_digit (take i word) ≡ true → is_ascii_digit (get_or word i 0) ≡ true → list_all is_ascii_digit (take (i + 1) word) ≡ true
+digits_more word i below digits one = list_all_more is_ascii_digit word i 0 below ∙ rw (digits, one) refl
+
+pub number_more : (word : List ℕ) (i n : ℕ) → i < length word → n ≡ digits_value 10 (take i word) → is_ascii_digit (get_or word i 0) ≡ true → 10 * n + (get_or word i 0 - 48) ≡ digits_value 10 (take (i + 1) word)
+number_more word i n below value one =
+    let range = and_parts _ _ one in
+    let digit = digit_value_digit (get_or word i 0) (leb-true _ _ range.0, leb-true _ _ range.1) in
+    omega (arith, value, digit, digits_value_more 10 word i below)

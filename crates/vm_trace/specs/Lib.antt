@@ -1,4 +1,5 @@
 pub mod Bytes
+pub mod Entries
 pub mod Limits
 pub mod Meaning
 pub mod Spelling

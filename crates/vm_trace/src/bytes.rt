@@ -1,5 +1,5 @@
 // The bytes of a step, and how hexadecimal digits spell them.
-ghost use Rattle.std.specs.Prelude.{◌≡◌, ◌↔◌, ◌*◌, ◌≤◌, ◌<◌, [], length, nat_lt, true, IsTrue};
+ghost use Rattle.std.specs.Prelude.{◌≡◌, ◌↔◌, ◌*◌, ◌≤◌, [], length, nat_lt, true, IsTrue};
 ghost use Rattle.std.specs.List.{list_all};
 ghost use Rattle.std.specs.Char.{digit_value};
 ghost use Rattle.vm_trace.specs.Words.{is_hex, hex_pairs};
@@ -70,12 +70,11 @@ impl Bytes {
     }
 
     // The bytes that hexadecimal digits spell.
-    pub(crate) fn from_hex(word: &str) -> Self
-        requires digits { is_hex word.now ≡ true }
-        requires fits { length word.now ≤ 2 * MAX_BYTES }
-        ensures { result ≡ hex_pairs word.now }
+    pub(crate) fn from_hex(digits: &[u8]) -> Self
+        requires digits { is_hex digits.now ≡ true }
+        requires fits { length digits.now ≤ 2 * MAX_BYTES }
+        ensures { result ≡ hex_pairs digits.now }
     {
-        let digits = word.as_bytes();
         let len = digits.len() / 2;
         let mut buffer = [0; MAX_BYTES];
         for i in 0..len {
@@ -89,24 +88,36 @@ impl Bytes {
 }
 
 // Whether a word is an even number of hexadecimal digits.
-pub(crate) fn is_hex(word: &str) -> bool
+pub(crate) fn is_hex(word: &[u8]) -> bool
     ensures { result ≡ is_hex word.now }
 {
     word.len() % 2 == 0 && is_hexadecimal(word)
 }
 
-fn is_hexadecimal(word: &str) -> bool
+fn is_hexadecimal(word: &[u8]) -> bool
     ensures { result ≡ list_all (λ c. nat_lt (digit_value c) 16) word.now }
 {
-    word.as_bytes()
-        .iter()
-        .all(|byte| char::from(*byte).is_digit(16))
+    word.iter().all(|byte| hex_value(*byte) < 16)
 }
 
-// The value of a hexadecimal digit.
+// The value of each byte as a digit or a letter, from 0 for `0` to 35 for `z`, and 36 for any other byte.
+const DIGIT_VALUES: [u8; 256] = [
+    36, 36, 36, 36, 36, 36, 36, 36, 36, 36, 36, 36, 36, 36, 36, 36, 36, 36, 36, 36, 36, 36, 36, 36,
+    36, 36, 36, 36, 36, 36, 36, 36, 36, 36, 36, 36, 36, 36, 36, 36, 36, 36, 36, 36, 36, 36, 36, 36,
+    0, 1, 2, 3, 4, 5, 6, 7, 8, 9, 36, 36, 36, 36, 36, 36, 36, 10, 11, 12, 13, 14, 15, 16, 17, 18,
+    19, 20, 21, 22, 23, 24, 25, 26, 27, 28, 29, 30, 31, 32, 33, 34, 35, 36, 36, 36, 36, 36, 36, 10,
+    11, 12, 13, 14, 15, 16, 17, 18, 19, 20, 21, 22, 23, 24, 25, 26, 27, 28, 29, 30, 31, 32, 33, 34,
+    35, 36, 36, 36, 36, 36, 36, 36, 36, 36, 36, 36, 36, 36, 36, 36, 36, 36, 36, 36, 36, 36, 36, 36,
+    36, 36, 36, 36, 36, 36, 36, 36, 36, 36, 36, 36, 36, 36, 36, 36, 36, 36, 36, 36, 36, 36, 36, 36,
+    36, 36, 36, 36, 36, 36, 36, 36, 36, 36, 36, 36, 36, 36, 36, 36, 36, 36, 36, 36, 36, 36, 36, 36,
+    36, 36, 36, 36, 36, 36, 36, 36, 36, 36, 36, 36, 36, 36, 36, 36, 36, 36, 36, 36, 36, 36, 36, 36,
+    36, 36, 36, 36, 36, 36, 36, 36, 36, 36, 36, 36, 36, 36, 36, 36, 36, 36, 36, 36, 36, 36, 36, 36,
+    36, 36, 36, 36, 36, 36, 36, 36, 36, 36, 36, 36, 36, 36,
+];
+
+// The value of a hexadecimal digit, and at least 16 for another byte. A table takes the same time for every digit.
 fn hex_value(digit: u8) -> u8
-    requires { digit_value digit < 16 }
     ensures { result ≡ digit_value digit }
 {
-    char::from(digit).to_digit(16).unwrap() as u8
+    DIGIT_VALUES[digit as usize]
 }

@@ -5,6 +5,7 @@
 #![tactic(auto)]
 
 mod bytes;
+mod entry;
 mod error;
 mod parse;
 mod step;

@@ -1,11 +1,9 @@
 // Reads a step from its text.
-ghost use Rattle.std.specs.Prelude.{◌≡◌, ◌≤◌, map, IfOk, Ok};
+ghost use Rattle.std.specs.Prelude.{◌≡◌, ◌==◌, ◌≤◌, [], ◌∷◌, bytes_eq, map, position, IfOk, Ok};
 ghost use Rattle.vm_trace.specs.declared.step.Step.{Step};
 ghost use Rattle.vm_trace.specs.Limits.{IsWithin};
 ghost use Rattle.vm_trace.specs.Spelling.{IsSpelled};
-ghost use Rattle.std.specs.List.{list_all};
-ghost use Rattle.std.specs.Char.{is_ascii_digit};
-ghost use Rattle.vm_trace.specs.Words.{is_number, number_of, number_in, bytes_in};
+ghost use Rattle.vm_trace.specs.Words.{words_of, words_left, number_of, number_in, bytes_in};
 ghost use Rattle.vm_trace.specs.Meaning.{read_step, write_step, free_step, queue_of, post_step, step_of_words, step_within};
 
 use crate::bytes::{Bytes, MAX_BYTES, is_hex};
@@ -59,49 +57,63 @@ pub fn parse_step_within(text: &str, pages: u32) -> Result<Step, TraceError>
     Ok(Step::new(action))
 }
 
+// The place of the first space.
+fn first_space(text: &[u8]) -> Option<usize>
+    ensures { result ≡ position (λ b. b == 32) text.now }
+{
+    text.iter().position(|byte| *byte == b' ')
+}
+
+// The first word of a text, and the text behind its space, where there is one.
+fn first_word(text: &[u8]) -> (&[u8], Option<&[u8]>)
+    ensures { words_of text.now ≡ result.0.now ∷ words_left result.1 }
+{
+    match first_space(text) {
+        Some(end) => (&text[..end], Some(&text[end + 1..])),
+        None => (text, None),
+    }
+}
+
 // The action that a text is.
 fn action_of(text: &str, pages: u32) -> Result<Action, TraceError>
     requires { 1 ≤ pages }
     ensures { result ≡ step_within pages text.now }
 {
-    let mut words = [""; MAX_WORDS];
+    let mut words: [&[u8]; MAX_WORDS] = [&[]; MAX_WORDS];
     let mut count = 0;
-    for word in text.split(' ') {
+    let mut left = Some(text.as_bytes());
+    while let Some(text_left) = left {
+        let (word, rest) = first_word(text_left);
         if word.is_empty() || count == MAX_WORDS {
             return Err(TraceError::Unknown);
         }
         words[count] = word;
         count += 1;
+        left = rest;
     }
     action_of_words(&words[..count], pages)
 }
 
-// Whether a word is 1 to 10 decimal digits.
-fn is_number(word: &str) -> bool
-    ensures { result ≡ is_number word.now }
-{
-    1 <= word.len() && word.len() <= MAX_DIGITS && is_decimal(word)
-}
-
-fn is_decimal(word: &str) -> bool
-    ensures { result ≡ list_all is_ascii_digit word.now }
-{
-    word.as_bytes().iter().all(|byte| byte.is_ascii_digit())
-}
-
-// The number that a word is.
-fn number(word: &str) -> Result<u64, TraceError>
+// The number that a word is: 1 to 10 decimal digits.
+fn number(word: &[u8]) -> Result<u64, TraceError>
     ensures { result ≡ number_of word.now }
 {
-    if !is_number(word) {
+    if word.is_empty() || word.len() > MAX_DIGITS {
         return Err(TraceError::Number);
     }
-    word.parse().map_err(|_| TraceError::Number)
+    let mut number = 0;
+    for digit in word {
+        if !digit.is_ascii_digit() {
+            return Err(TraceError::Number);
+        }
+        number = 10 * number + u64::from(*digit - b'0');
+    }
+    Ok(number)
 }
 
 // The number that a word is, from `low` up to `high`.
 #[tactic(auto, unfolding(crate::specs::Words::number_in))]
-fn number_in(word: &str, low: u32, high: u32) -> Result<u32, TraceError>
+fn number_in(word: &[u8], low: u32, high: u32) -> Result<u32, TraceError>
     ensures value { result ≡ number_in low high word.now }
     ensures bound { IfOk result (λ n. n ≤ high) }
 {
@@ -115,7 +127,7 @@ fn number_in(word: &str, low: u32, high: u32) -> Result<u32, TraceError>
 
 // The bytes that a word spells, at most `limit` of them.
 #[tactic(auto, unfolding(crate::specs::Words::bytes_in))]
-fn bytes_in(word: &str, limit: usize) -> Result<Bytes, TraceError>
+fn bytes_in(word: &[u8], limit: usize) -> Result<Bytes, TraceError>
     requires { limit ≤ MAX_BYTES }
     ensures { result ≡ bytes_in limit word.now }
 {
@@ -130,7 +142,7 @@ fn bytes_in(word: &str, limit: usize) -> Result<Bytes, TraceError>
 
 // r PAGE OFFSET LEN
 #[tactic(auto, unfolding(crate::specs::Meaning::read_step))]
-fn read(page: &str, offset: &str, len: &str, pages: u32) -> Result<Action, TraceError>
+fn read(page: &[u8], offset: &[u8], len: &[u8], pages: u32) -> Result<Action, TraceError>
     requires { 1 ≤ pages }
     ensures { result ≡ read_step pages page.now offset.now len.now }
 {
@@ -149,7 +161,7 @@ fn read(page: &str, offset: &str, len: &str, pages: u32) -> Result<Action, Trace
 
 // w PAGE OFFSET HEX
 #[tactic(auto, unfolding(crate::specs::Meaning::write_step))]
-fn write(page: &str, offset: &str, hex: &str, pages: u32) -> Result<Action, TraceError>
+fn write(page: &[u8], offset: &[u8], hex: &[u8], pages: u32) -> Result<Action, TraceError>
     requires { 1 ≤ pages }
     ensures { result ≡ write_step pages page.now offset.now hex.now }
 {
@@ -168,7 +180,7 @@ fn write(page: &str, offset: &str, hex: &str, pages: u32) -> Result<Action, Trac
 
 // f PAGE
 #[tactic(auto, unfolding(crate::specs::Meaning::free_step))]
-fn free(page: &str, pages: u32) -> Result<Action, TraceError>
+fn free(page: &[u8], pages: u32) -> Result<Action, TraceError>
     requires { 1 ≤ pages }
     ensures { result ≡ free_step pages page.now }
 {
@@ -176,22 +188,32 @@ fn free(page: &str, pages: u32) -> Result<Action, TraceError>
     Ok(Action::Free { page })
 }
 
+// Whether a word is this one letter.
+fn is_letter(word: &[u8], letter: u8) -> bool
+    ensures { result ≡ bytes_eq word.now (letter ∷ []) }
+{
+    word == [letter].as_slice()
+}
+
 // The queue of a letter.
 #[tactic(auto, unfolding(crate::specs::Meaning::queue_of))]
-fn queue_of(letter: &str) -> Result<Queue, TraceError>
-    ensures { result ≡ queue_of letter.now }
+fn queue_of(word: &[u8]) -> Result<Queue, TraceError>
+    ensures { result ≡ queue_of word.now }
 {
-    match letter {
-        "i" => Ok(Queue::Inflate),
-        "d" => Ok(Queue::Deflate),
-        "s" => Ok(Queue::Stats),
-        _ => Err(TraceError::Unknown),
+    if is_letter(word, b'i') {
+        Ok(Queue::Inflate)
+    } else if is_letter(word, b'd') {
+        Ok(Queue::Deflate)
+    } else if is_letter(word, b's') {
+        Ok(Queue::Stats)
+    } else {
+        Err(TraceError::Unknown)
     }
 }
 
 // p QUEUE HEX
 #[tactic(auto, unfolding(crate::specs::Meaning::post_step))]
-fn post(queue: &str, hex: &str) -> Result<Action, TraceError>
+fn post(queue: &[u8], hex: &[u8]) -> Result<Action, TraceError>
     ensures { result ≡ post_step queue.now hex.now }
 {
     let queue = queue_of(queue)?;
@@ -201,28 +223,16 @@ fn post(queue: &str, hex: &str) -> Result<Action, TraceError>
 
 // The action that these words are.
 #[tactic(auto, unfolding(crate::specs::Meaning::step_of_words))]
-fn action_of_words(words: &[&str], pages: u32) -> Result<Action, TraceError>
+fn action_of_words(words: &[&[u8]], pages: u32) -> Result<Action, TraceError>
     requires { 1 ≤ pages }
     ensures { result ≡ step_of_words pages (map (λ word. word.now) words.now) }
 {
     match *words {
-        [kind] => match kind {
-            "i" => Ok(Action::Idle),
-            _ => Err(TraceError::Unknown),
-        },
-        [kind, page] => match kind {
-            "f" => free(page, pages),
-            _ => Err(TraceError::Unknown),
-        },
-        [kind, queue, hex] => match kind {
-            "p" => post(queue, hex),
-            _ => Err(TraceError::Unknown),
-        },
-        [kind, page, offset, last] => match kind {
-            "r" => read(page, offset, last, pages),
-            "w" => write(page, offset, last, pages),
-            _ => Err(TraceError::Unknown),
-        },
+        [kind] if is_letter(kind, b'i') => Ok(Action::Idle),
+        [kind, page] if is_letter(kind, b'f') => free(page, pages),
+        [kind, queue, hex] if is_letter(kind, b'p') => post(queue, hex),
+        [kind, page, offset, len] if is_letter(kind, b'r') => read(page, offset, len, pages),
+        [kind, page, offset, hex] if is_letter(kind, b'w') => write(page, offset, hex, pages),
         _ => Err(TraceError::Unknown),
     }
 }

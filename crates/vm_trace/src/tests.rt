@@ -125,6 +125,35 @@ fn traces_keep_their_order(rt: HostRuntime) -> Result<(), Fail> {
 }
 
 #[test]
+fn traces_keep_the_bytes_of_each_step(rt: HostRuntime) -> Result<(), Fail> {
+    let texts = [
+        "w 262143 4080 000102030405060708090a0b0c0d0e0f",
+        "p s 000102",
+        "i",
+        "w 0 4095 fF",
+        "r 1 4080 16",
+        "f 2",
+        "p d 03000000",
+    ];
+    let mut trace = Trace::with_capacity(rt.alloc(), 2)?;
+    assert!(rt; trace.is_empty());
+    for text in texts {
+        trace.push(parse_step_within(text, 262144)?)?;
+    }
+    assert_eq!(rt; trace.len(), 7);
+    let last_byte = Action::Write {
+        page: 0,
+        offset: 4095,
+        bytes: Bytes::from_slice(&[0xff]),
+    };
+    assert_eq!(rt; trace.step(3).map(|step| step.action()), Some(last_byte));
+    for (place, text) in texts.iter().enumerate() {
+        assert_eq!(rt; trace.step(place), Some(parse_step_within(text, 262144)?));
+    }
+    Ok(())
+}
+
+#[test]
 fn faults_read(rt: HostRuntime) -> Result<(), Fail> {
     for (fault, number, text) in [
         (TraceError::Unknown, 1, "unknown step"),

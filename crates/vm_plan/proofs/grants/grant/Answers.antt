@@ -1,5 +1,5 @@
 use Rattle.std.proofs.Common.{◌≡◌, ℕ, ◌<◌, ◌++◌, ◌∷◌, [], List, IfSome, slice_get, sym, ap, ◌∙◌, subst, arith}
-use Rattle.std.proofs.lemmas.List.{with_items_is}
+use Rattle.std.proofs.lemmas.List.{length_push, with_items_is}
 use Rattle.vm_tax.specs.Ratio.{hundredths}
 use Rattle.vm_plan.specs.declared.row.PlanRow.{PlanRow}
 use Rattle.vm_plan.specs.Row.{change_at}
@@ -10,6 +10,7 @@ use Rattle.vm_plan.proofs.GrantLemmas.{plan_row_fact, grant_cost, at_most_one, p
 use Rattle.vm_plan.proofs.ListLemmas.{next_demand, grant_list-only}
 use Rattle.vm_plan.proofs.Places.{wanting_row, may_free, grants_within, grants_apply}
 use Rattle.vm_plan.proofs.RowLemmas.{plan_rows-have_shares}
+use Rattle.vm_plan.proofs.SumLemmas.{few_targets, target-granted, total_target}
 use Rattle.vm_plan.proofs.grants.grant.Goals as goal
 
 pub give_page-left-requires-clause-wants : goal.give_page-left-requires-clause-wants
@@ -52,11 +53,14 @@ loop-position-smaller c =
     let now = ap (λ (xs : List PlanRow). total_demand (rows_of xs)) whole ∙ ap total_demand given in
     omega (arith, less, now)
 
+pub push-requires : goal.push-requires
+push-requires c = omega (arith, c.loop-position.invariant.targets, few_targets c.loop-position.after.items (omega arith))
+
 pub loop-position-preserved : goal.loop-position-preserved
 loop-position-preserved c =
     let tax = hundredths c.args.tax in
     let rows = c.loop-position.after.items in
-    let moves = c.loop-position.moves.items in
+    let moves = c.loop-position.plan in
     let position = c.in-Some.position in
     let frames = c.give_page-left.result in
     let new = c.give_page-left.new.rows in
@@ -68,34 +72,36 @@ loop-position-preserved c =
     let given = c.give_page-left.ensures.given ∙ ap (λ (xs : List PlanRow). change_at granted_row (rows_of xs) position) c.deref_mut.ensures.value in
     let one = pool-granted c.loop-position.left frames rows new position wants.0 cost given in
     let then = ap (λ (pool : Pool). granted pool position) c.loop-position.invariant.pool in
-    let pushed : c.push.new.self.items ≡ moves ++ position ∷ [] = c.in_ok-push.ensures.items in
+    let pushed : c.push.new.self ≡ moves ++ position ∷ [] = c.in_ok-push.ensures in
     let last = subst (λ (pool : Pool). IsNextGrant c.args.state c.args.thresholds.now tax pool position) c.loop-position.invariant.pool next in
     record {
       pool = rw (whole, pushed) (one ∙ then ∙ sym (pool_after-push start moves position));
       each_next = rw pushed (each-push (λ before position. IsNextGrant c.args.state c.args.thresholds.now tax (pool_after start before) position) moves position c.loop-position.invariant.each_next last);
       tracked = rw whole c.give_page-left.ensures.tracked;
+      wanting = rw whole c.give_page-left.ensures.wanting;
       few = rw whole (omega arith);
+      targets = rw (whole, pushed) (omega (arith, length_push moves position, target-granted (rows_of rows) position wants.0, ap total_target given, c.loop-position.invariant.targets));
     }
 
 pub returns-clause-list : goal.returns-clause-list
 returns-clause-list c =
     let tax = hundredths c.args.tax in
     let ended = subst (λ (xs : List PlanRow). (position : ℕ) → ¬ IsNextGrant c.args.state c.args.thresholds.now tax (pool_of c.loop-position.left xs) position) c.deref.ensures.value c.in_default.ensures.none in
-    let list : IsGrantList c.args.state c.args.thresholds.now tax (pool_of c.args.free c.args.rows.now) c.loop-position.moves.items = record {
+    let list : IsGrantList c.args.state c.args.thresholds.now tax (pool_of c.args.free c.args.rows.now) c.loop-position.plan = record {
       each_next = c.loop-position.invariant.each_next;
       ends = subst (λ (pool : Pool). (position : ℕ) → ¬ IsNextGrant c.args.state c.args.thresholds.now tax pool position) c.loop-position.invariant.pool ended;
     } in
-    rw c.new.ensures list
+    list
 
 pub returns-clause-exact : goal.returns-clause-exact
 returns-clause-exact c =
     let rows = c.args.rows.now in
-    grant_list-only c.args.state c.args.thresholds.now (hundredths c.args.tax) (pool_of c.args.free rows) c.new.result (plan_rows-have_shares rows) (returns-clause-list c)
+    grant_list-only c.args.state c.args.thresholds.now (hundredths c.args.tax) (pool_of c.args.free rows) c.loop-position.plan (plan_rows-have_shares rows) (returns-clause-list c)
 
 pub returns-clause-within : goal.returns-clause-within
 returns-clause-within c =
-    rw c.new.ensures (grants_within c.args.state c.args.thresholds.now (hundredths c.args.tax) c.args.free c.args.rows.now c.loop-position.moves.items c.loop-position.invariant.each_next)
+    (grants_within c.args.state c.args.thresholds.now (hundredths c.args.tax) c.args.free c.args.rows.now c.loop-position.plan c.loop-position.invariant.each_next)
 
 pub returns-clause-applies : goal.returns-clause-applies
 returns-clause-applies c =
-    rw c.new.ensures (grants_apply c.args.state c.args.thresholds.now (hundredths c.args.tax) (pool_of c.args.free c.args.rows.now) c.loop-position.moves.items c.loop-position.invariant.each_next)
+    (grants_apply c.args.state c.args.thresholds.now (hundredths c.args.tax) (pool_of c.args.free c.args.rows.now) c.loop-position.plan c.loop-position.invariant.each_next)

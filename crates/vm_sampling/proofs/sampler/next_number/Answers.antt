@@ -3,9 +3,9 @@ use Rattle.vm_sampling.specs.Marks.{marked}
 use Rattle.vm_sampling.proofs.MarksLemmas.{marked-later, marked-none}
 use Rattle.vm_sampling.proofs.sampler.next_number.Goals as goal
 
-pub returns-then-number-eq18446744073709551615-clause-empty :
-    goal.returns-then-number-eq18446744073709551615-clause-empty
-returns-then-number-eq18446744073709551615-clause-empty c =
+pub returns-then-number-eq65535-clause-empty :
+    goal.returns-then-number-eq65535-clause-empty
+returns-then-number-eq65535-clause-empty c =
     ap (marked 1) (c.fill.ensures.after (λ y e. e)) ∙ marked-none (length c.args.marks.now)
 
 pub returns-clause-empty : goal.returns-clause-empty

@@ -1,28 +1,32 @@
-use Rattle.std.proofs.Common.{rules, add-one, ap, ◌∙◌}
+use Rattle.std.proofs.Common.{◌∙◌, rules, add-one}
+use Rattle.vm_sim.proofs.CourseLemmas.{next_in_course, told_in_course}
 use Rattle.vm_sim.proofs.StreamLemmas.{AppendsFront-none, Appends-then}
-use Rattle.vm_sim.specs.Course.{next_world}
 use Rattle.vm_sim.proofs.FrontLemmas.{cut_in_epoch, cut_at_end}
+use Rattle.vm_sim.specs.Course.{course_from}
 use Rattle.vm_sim.proofs.simulation.tell.Goals as goal
 
 pub returns-in_err-epoch-clause-front : goal.returns-in_err-epoch-clause-front
 returns-in_err-epoch-clause-front g c =
-    cut_in_epoch c.from_residual.result _ _ _ c.loop-number.number c.args.epochs c.args.host.now c.loop-number.host (search rules) (search rules)
-    c.loop-number.invariant.written c.in_err-epoch.ensures.front
+    let course = course_from c.args.epochs c.args.agenda.now c.args.host.now in
+    cut_in_epoch c.from_residual.result _ _ _ course c.loop-number.number (search rules) c.loop-number.invariant.written
+    (rw (← told_in_course c.args.epochs c.args.agenda.now c.args.host.now c.loop-number.number c.loop-number.host c.loop-number.invariant.host) c.in_err-epoch.ensures.front)
 
 pub returns-in_err-told-clause-front : goal.returns-in_err-told-clause-front
 returns-in_err-told-clause-front g c =
-    cut_at_end c.from_residual-in_err-told.result _ _ _ c.loop-number.number c.args.epochs c.args.host.now c.loop-number.host (search rules) (search rules)
+    cut_at_end c.from_residual-in_err-told.result _ _ _ (course_from c.args.epochs c.args.agenda.now c.args.host.now) c.loop-number.number (search rules)
     c.loop-number.invariant.written (AppendsFront-none _ _)
 
 pub returns-in_err-write_text-clause-front : goal.returns-in_err-write_text-clause-front
 returns-in_err-write_text-clause-front g c =
-    cut_at_end c.from_residual-in_err-write_text.result _ _ _ c.loop-number.number c.args.epochs c.args.host.now c.loop-number.host (search rules) (search rules)
+    cut_at_end c.from_residual-in_err-write_text.result _ _ _ (course_from c.args.epochs c.args.agenda.now c.args.host.now) c.loop-number.number (search rules)
     c.loop-number.invariant.written (search rules)
 
 pub loop-number-preserved : goal.loop-number-preserved
 loop-number-preserved g c =
     let k = c.loop-number.number in
     record {
-      host = rw add-one (c.in_ok-epoch.ensures.host ∙ ap (next_world k) c.loop-number.invariant.host);
-      written = rw add-one (Appends-then _ _ _ _ _ c.loop-number.invariant.written (rw c.loop-number.invariant.host at c.in_ok-epoch.ensures.written));
+      host = rw add-one (next_in_course c.args.epochs c.args.agenda.now c.args.host.now k c.loop-number.host _ c.loop-number.invariant.host c.in_ok-epoch.ensures.host);
+      written = rw add-one (Appends-then _ _ _ _ _ c.loop-number.invariant.written
+          (rw (told_in_course c.args.epochs c.args.agenda.now c.args.host.now k c.loop-number.host c.loop-number.invariant.host) at c.in_ok-epoch.ensures.written));
+      stays = c.in_ok-epoch.ensures.stays ∙ c.loop-number.invariant.stays;
     }

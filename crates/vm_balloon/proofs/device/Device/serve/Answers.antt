@@ -4,7 +4,7 @@ use Rattle.vm_pages.specs.Pages.{contains, no_pages, insert_all, remove_all}
 use Rattle.vm_pages.proofs.PageSets.{contains-remove_all_before, count-le-length, length-no_pages}
 use Rattle.vm_balloon.specs.Device.{inflated, deflated, filled, last_stats}
 use Rattle.vm_balloon.specs.DeviceFields.{state_of}
-use Rattle.vm_balloon.specs.Posted.{PostedPages}
+use Rattle.vm_balloon.specs.Posted.{PostedBuffers, PostedPages}
 use Rattle.vm_balloon.specs.Service.{numbers_in, deflated_by, refused}
 use Rattle.vm_balloon.proofs.DeviceLemmas.{AreApart-none, AreListed-none}
 use Rattle.vm_balloon.proofs.device.Device.serve.Goals as goal
@@ -31,8 +31,10 @@ invariant_of-self c =
     let no_list = ap length c.clear_listed.ensures.list in
     let no_inflates = ap (λ (q : PostedPages). length q.buffers) c.clear.ensures in
     let no_deflates = ap (λ (q : PostedPages). length q.buffers) c.clear-2.ensures in
+    let no_reports = ap (λ (b : PostedBuffers). length b.list) c.clear-3.ensures in
     let inflates_room = ap (λ (q : PostedPages). q.room) c.clear.ensures in
     let deflates_room = ap (λ (q : PostedPages). q.room) c.clear-2.ensures in
+    let reports_room = ap (λ (b : PostedBuffers). b.room) c.clear-3.ensures in
     record {
       few_pages = old.few_pages;
       balloon_size = balloon_size;
@@ -44,10 +46,10 @@ invariant_of-self c =
       early_left = omega (arith, few, no_list, balloon_size);
       room_early = omega (arith, old.room_early, c.clear_listed.ensures.room);
       few_buffers = old.few_buffers;
-      posted = omega (arith, no_inflates, no_deflates, c.clear-3.ensures.len);
+      posted = omega (arith, no_inflates, no_deflates, no_reports);
       room_inflates = omega (arith, old.room_inflates, inflates_room);
       room_deflates = omega (arith, old.room_deflates, deflates_room);
-      room_reports = omega (arith, old.room_reports, c.clear-3.ensures.capacity);
+      room_reports = omega (arith, old.room_reports, reports_room);
       room_numbers = omega (arith, old.room_numbers, kept.numbers_room);
       room_inflated = omega (arith, old.room_inflated, kept.inflated_room);
       room_deflated = omega (arith, old.room_deflated, kept.deflated_room);
@@ -66,8 +68,8 @@ returns c =
     done.balloon ∙ ap (λ taken. remove_all (insert_all inside.balloon taken) given) done.inflated ∙ ap (remove_all (filled state)) deflated_is in
     let early_is : c.clear_listed.new.pages ≡ no_pages inside.size =
     c.clear_listed.ensures.pages ∙ ap no_pages (done.same_early_size ∙ old.balloon_size) in
-    let stats_is : c.last_stats-self-inside.result ≡ last_stats inside.stats inside.reports.items =
-    c.last_stats-self-inside.ensures ∙ ap (last_stats inside.stats) c.deref.ensures.value in
+    let stats_is : c.last_stats-self-inside.result ≡ last_stats inside.stats inside.reports.list =
+    c.last_stats-self-inside.ensures ∙ ap (last_stats inside.stats) c.as_slice.ensures in
     rw (← c.self.view_is) (
       (
         refl,
@@ -79,7 +81,7 @@ returns c =
           early = early_is i;
           inflates = (c.clear.ensures i).buffers;
           deflates = (c.clear-2.ensures i).buffers;
-          reports = c.clear-3.ensures.items i;
+          reports = (c.clear-3.ensures i).list;
           num_pages = inside.num_pages;
           actual = inside.actual;
           stats = stats_is i;

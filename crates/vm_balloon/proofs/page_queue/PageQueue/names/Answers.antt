@@ -8,7 +8,7 @@ use Rattle.vm_balloon.proofs.page_queue.PageQueue.names.Goals as goal
 
 pub contains-requires : goal.contains-requires
 contains-requires c =
-    let size = ap length c.self.invariant.marked ∙ length-marked c.self.inside.size (numbers_in c.self.inside.buffers.items) in
+    let size = ap length c.self.invariant.marked ∙ length-marked c.self.inside.size (numbers_in c.self.inside.buffers.list) in
     let is : c.self.inside.size ≡ c.args.self.now.size = ap (λ (q : PostedPages). q.size) c.self.view_is in
     omega (arith, size, is, c.requires)
 
@@ -19,5 +19,5 @@ returns c =
     let within : page < c.self.inside.size = omega (arith, is, c.requires) in
     c.contains.ensures
     ∙ ap (λ pages. contains pages page) c.self.invariant.marked
-    ∙ contains-marked c.self.inside.size (numbers_in c.self.inside.buffers.items) page within
+    ∙ contains-marked c.self.inside.size (numbers_in c.self.inside.buffers.list) page within
     ∙ ap (λ (q : PostedPages). names q.buffers page) c.self.view_is

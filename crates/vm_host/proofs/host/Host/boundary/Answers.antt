@@ -1,48 +1,149 @@
-use Rattle.std.proofs.Common.{◌≡◌, ◌-◌, ◌∙◌, ap, refl, arith}
-use Rattle.std.specs.FinSet as set
-use Rattle.vm_host.specs.declared.phase.Phase.TheVariants.{Ready}
-use Rattle.vm_host.specs.Boundary.{all_ordered, opened}
-use Rattle.vm_host.specs.Commands.{after_lines, answers_to}
+use Rattle.std.proofs.Common.{◌≡◌, ◌≢◌, ◌∙◌, ℕ, List, ap, map, refl, rules, string_bytes, subst, sym}
+use Rattle.vm_host.specs.declared.phase.Phase.TheVariants.{Failed}
+use Rattle.vm_host.specs.Boundary.{boundary_of, bounded, FailsAfterSome}
+use Rattle.vm_host.specs.Fairness.{IsFairBoundary}
 use Rattle.vm_host.specs.Parts.{world_of}
-use Rattle.vm_host.specs.Slots.{slot_ordered}
-use Rattle.vm_host.specs.World.{World}
-use Rattle.vm_host.proofs.WorldLemmas.{conserves, tied-kept, ordered-keeps, world-ordered, with_slots, items-mapped, state-after_lines, phase-after_lines}
+use Rattle.vm_host.specs.Sound.{IsSoundWorld}
+use Rattle.vm_host.specs.World.{Conserves, FailsFrom, World}
+use Rattle.vm_host.proofs.FailLemmas.{fails-from, fails-some, fails-whole}
+use Rattle.vm_host.proofs.FairnessLemmas.{fair-bounded}
+use Rattle.vm_host.proofs.KeptLemmas.{ready-bounded}
+use Rattle.vm_host.proofs.LineLemmas.{bounded-sound}
+use Rattle.vm_reclaim.specs.Policy.{policy_of}
 use Rattle.vm_host.proofs.host.Host.boundary.Goals as goal
 
-pub invariant_of-self-2 : goal.invariant_of-self-2
-invariant_of-self-2 c =
-    let p = c.obey_all.new.parts in
-    let new = with_slots p c.order_all.new.slots p.phase in
-    let slots = items-mapped p c.deref_mut.result.now c.order_all.new.slots p.phase slot_ordered c.deref_mut.ensures.value c.deref_mut.ensures.len c.order_all.ensures in
-    tied-kept p new c.obey_all.ensures.tied (ordered-keeps p new c.obey_all.ensures.tied refl refl refl slots refl)
+-- ---- the host has failed
 
-pub returns-clause-conserves : goal.returns-clause-conserves
-returns-clause-conserves c =
-    let p = c.obey_all.new.parts in
-    let new = with_slots p c.order_all.new.slots p.phase in
-    let slots = items-mapped p c.deref_mut.result.now c.order_all.new.slots p.phase slot_ordered c.deref_mut.ensures.value c.deref_mut.ensures.len c.order_all.ensures in
-    conserves new (tied-kept p new c.obey_all.ensures.tied (ordered-keeps p new c.obey_all.ensures.tied refl refl refl slots refl))
+pub same-self : goal.same-self
+same-self c = refl
 
-pub returns-clause-done : goal.returns-clause-done
-returns-clause-done c =
-    let p = c.obey_all.new.parts in
-    let new = with_slots p c.order_all.new.slots p.phase in
-    let slots = items-mapped p c.deref_mut.result.now c.order_all.new.slots p.phase slot_ordered c.deref_mut.ensures.value c.deref_mut.ensures.len c.order_all.ensures in
-    let start = c.open_boundary.ensures.world ∙ ap opened c.self.view_is in
-    let done : world_of p ≡ after_lines (opened c.args.self.now) c.args.lines.now = c.in-Ok.ensures.done ∙ (λ i. after_lines (start i) (c.as_slice.ensures i)) in
-    let ready : p.phase ≡ Ready = ap (λ (w : World). w.phase) done ∙ phase-after_lines (opened c.args.self.now) c.args.lines.now in
-    world-ordered p new refl refl refl slots
-    ∙ (λ i. record (done i) { guests = all_ordered (done i).guests; phase = ready i })
+pub returns-then-eq-clause-failed : goal.returns-then-eq-clause-failed
+returns-then-eq-clause-failed c =
+    let failed : (world_of c.self.inside.parts).phase ≡ Failed = search rules in
+    (λ _. ap (λ (w : World). w.phase) (sym c.self.view_is) ∙ failed, λ _. refl)
 
-pub returns-clause-told : goal.returns-clause-told
-returns-clause-told c =
-    let p = c.obey_all.new.parts in
-    let start = c.open_boundary.ensures.world ∙ ap opened c.self.view_is in
-    let done : world_of p ≡ after_lines (opened c.args.self.now) c.args.lines.now = c.in-Ok.ensures.done ∙ (λ i. after_lines (start i) (c.as_slice.ensures i)) in
-    let answers = c.new.ensures ∙ c.in-Ok.ensures.answers ∙ (λ i. answers_to (start i) (c.as_slice.ensures i)) in
-    let state = ap (λ (w : World). w.state) done ∙ state-after_lines (opened c.args.self.now) c.args.lines.now in
-    let counted = c.free-free.ensures in
-    let total = c.obey_all.ensures.tied.total in
-    let left : c.free-free.result ≡ p.spec.frames - set.len p.machine.out = omega (arith, counted, total) in
-    let free = left ∙ ap (λ (w : World). w.free) done in
-    λ i. record { answers = answers i; state = state i; free = free i }
+pub returns-then-eq-clause-unchanged : goal.returns-then-eq-clause-unchanged
+returns-then-eq-clause-unchanged c = λ _. refl
+
+pub returns-then-eq-clause-memory : goal.returns-then-eq-clause-memory
+returns-then-eq-clause-memory c = λ is. absurd cc
+
+pub returns-then-eq-clause-kept : goal.returns-then-eq-clause-kept
+returns-then-eq-clause-kept c = λ is. absurd cc
+
+pub returns-then-eq-clause-conserves : goal.returns-then-eq-clause-conserves
+returns-then-eq-clause-conserves c = subst (λ (w : World). Conserves w) c.self.view_is c.self.invariant.adds_up
+
+-- ---- it has not
+
+pub bound-requires-clause-sound : goal.bound-requires-clause-sound
+bound-requires-clause-sound c =
+    let fails : (world_of c.self.inside.parts).phase ≢ Failed = λ is. search rules in
+    c.self.invariant.sound fails
+
+pub bound-requires-clause-booked : goal.bound-requires-clause-booked
+bound-requires-clause-booked c =
+    let fails : (world_of c.self.inside.parts).phase ≢ Failed = λ is. search rules in
+    c.self.invariant.booked fails
+
+-- ---- the boundary is done
+
+pub invariant_of-self : goal.invariant_of-self
+invariant_of-self c =
+    let w = world_of c.self.inside.parts in
+    let lines = map string_bytes c.as_slice.result.now in
+    let fails : w.phase ≢ Failed = λ is. search rules in
+    let sound = subst (λ (v : World). IsSoundWorld v) (sym c.in-Ok.ensures.done) (bounded-sound (policy_of w.machine) w lines (c.self.invariant.sound fails)) in
+    record { adds_up = sound.conserves; sound = λ _. sound; booked = λ _. c.in-Ok.ensures.booked }
+
+pub returns-in-Ok-clause-done : goal.returns-in-Ok-clause-done
+returns-in-Ok-clause-done c = c.in-Ok.ensures.done ∙ (λ j. bounded (c.self.view_is j) (c.as_slice.ensures j))
+
+pub returns-in-Ok-clause-told : goal.returns-in-Ok-clause-told
+returns-in-Ok-clause-told c = c.in-Ok.ensures.told ∙ (λ j. boundary_of (c.self.view_is j) (c.as_slice.ensures j))
+
+pub returns-in-Ok-clause-ready : goal.returns-in-Ok-clause-ready
+returns-in-Ok-clause-ready c =
+    let w = world_of c.self.inside.parts in
+    let lines = map string_bytes c.as_slice.result.now in
+    ap (λ (v : World). v.phase) c.in-Ok.ensures.done ∙ ready-bounded (policy_of w.machine) w lines
+
+pub returns-in-Ok-clause-failed : goal.returns-in-Ok-clause-failed
+returns-in-Ok-clause-failed c =
+    let fails : (world_of c.self.inside.parts).phase ≢ Failed = λ is. search rules in
+    (λ is. absurd cc, λ is. absurd (fails (ap (λ (v : World). v.phase) c.self.view_is ∙ is)))
+
+pub returns-in-Ok-clause-unchanged : goal.returns-in-Ok-clause-unchanged
+returns-in-Ok-clause-unchanged c = λ is. absurd cc
+
+pub returns-in-Ok-clause-memory : goal.returns-in-Ok-clause-memory
+returns-in-Ok-clause-memory c = λ is. absurd cc
+
+pub returns-in-Ok-clause-kept : goal.returns-in-Ok-clause-kept
+returns-in-Ok-clause-kept c = λ is. absurd cc
+
+pub returns-in-Ok-clause-conserves : goal.returns-in-Ok-clause-conserves
+returns-in-Ok-clause-conserves c =
+    let w = world_of c.self.inside.parts in
+    let lines = map string_bytes c.as_slice.result.now in
+    let fails : w.phase ≢ Failed = λ is. search rules in
+    let sound = subst (λ (v : World). IsSoundWorld v) (sym c.in-Ok.ensures.done) (bounded-sound (policy_of w.machine) w lines (c.self.invariant.sound fails)) in
+    sound.conserves
+
+pub returns-in-Ok-clause-good : goal.returns-in-Ok-clause-good
+returns-in-Ok-clause-good c =
+    let w = world_of c.self.inside.parts in
+    let lines = map string_bytes c.as_slice.result.now in
+    let fails : w.phase ≢ Failed = λ is. search rules in
+    let sound = subst (λ (v : World). IsSoundWorld v) (sym c.in-Ok.ensures.done) (bounded-sound (policy_of w.machine) w lines (c.self.invariant.sound fails)) in
+    sound.pool.good
+
+pub returns-in-Ok-clause-fair : goal.returns-in-Ok-clause-fair
+returns-in-Ok-clause-fair c =
+    let w = world_of c.self.inside.parts in
+    let lines = map string_bytes c.as_slice.result.now in
+    let fails : w.phase ≢ Failed = λ is. search rules in
+    let fair = fair-bounded (policy_of w.machine) w lines (c.self.invariant.sound fails) in
+    subst (λ (l : List (List ℕ)). IsFairBoundary (policy_of c.args.self.now.machine) c.args.self.now l) c.as_slice.ensures
+    (subst (λ (v : World). IsFairBoundary (policy_of v.machine) v lines) c.self.view_is fair)
+
+-- ---- memory was refused
+
+pub invariant_of-self-in-Err : goal.invariant_of-self-in-Err
+invariant_of-self-in-Err c =
+    let w = world_of c.self.inside.parts in
+    let fails : w.phase ≢ Failed = λ is. search rules in
+    let failed = ap (λ (v : World). v.phase) c.fail.ensures.failed in
+    record {
+      adds_up = fails-whole w (world_of c.bound.new.parts) (world_of c.fail.new.parts) (c.self.invariant.sound fails) c.in-Err.ensures.kept c.fail.ensures.failed c.fail.ensures.adds_up;
+      sound = λ no. absurd (no failed);
+      booked = λ no. absurd (no failed);
+    }
+
+pub returns-in-Err-clause-failed : goal.returns-in-Err-clause-failed
+returns-in-Err-clause-failed c =
+    let fails : (world_of c.self.inside.parts).phase ≢ Failed = λ is. search rules in
+    (λ is. absurd cc, λ is. absurd (fails (ap (λ (v : World). v.phase) c.self.view_is ∙ is)))
+
+pub returns-in-Err-clause-unchanged : goal.returns-in-Err-clause-unchanged
+returns-in-Err-clause-unchanged c = λ is. absurd cc
+
+pub returns-in-Err-clause-memory : goal.returns-in-Err-clause-memory
+returns-in-Err-clause-memory c =
+    let new = world_of c.fail.new.parts in
+    let lines = map string_bytes c.as_slice.result.now in
+    λ _. subst (λ (l : List (List ℕ)). FailsAfterSome c.args.self.now l new) c.as_slice.ensures
+    (subst (λ (v : World). FailsAfterSome v lines new) c.self.view_is
+    (fails-some (world_of c.self.inside.parts) (world_of c.bound.new.parts) new lines c.in-Err.ensures.memory c.fail.ensures.failed))
+
+pub returns-in-Err-clause-kept : goal.returns-in-Err-clause-kept
+returns-in-Err-clause-kept c =
+    let new = world_of c.fail.new.parts in
+    λ _. subst (λ (v : World). FailsFrom v new) c.self.view_is
+    (fails-from (world_of c.self.inside.parts) (world_of c.bound.new.parts) new c.in-Err.ensures.kept c.fail.ensures.failed)
+
+pub returns-in-Err-clause-conserves : goal.returns-in-Err-clause-conserves
+returns-in-Err-clause-conserves c =
+    let w = world_of c.self.inside.parts in
+    let fails : w.phase ≢ Failed = λ is. search rules in
+    fails-whole w (world_of c.bound.new.parts) (world_of c.fail.new.parts) (c.self.invariant.sound fails) c.in-Err.ensures.kept c.fail.ensures.failed c.fail.ensures.adds_up

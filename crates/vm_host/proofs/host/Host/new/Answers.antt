@@ -1,39 +1,56 @@
-use Rattle.std.proofs.Common.{◌∙◌, sym, ap, arith, length, List, ℕ, rules}
-use Rattle.std.specs.FinSet as sets
-use Rattle.vm_host.specs.declared.parts.Parts.{Parts}
+use Rattle.std.proofs.Common.{◌≡◌, ◌∙◌, All, List, ap, arith, subst, sym}
+use Rattle.vm_admission.specs.Accounts.{empty_accounts}
+use Rattle.vm_domains.specs.Domains.{configs_of, domains_of}
+use Rattle.vm_domains.specs.Machine.{IsMachine, MachineConfig}
+use Rattle.vm_domains.proofs.DomainLemmas.{configs_of-domains_of, length-domains_of, names_of-domains_of}
+use Rattle.vm_guest.specs.Config.{GuestConfig, IsWithinLimits}
+use Rattle.vm_plan.specs.declared.state.State.TheVariants.{High}
+use Rattle.vm_pool.specs.Pool.{first_pool}
 use Rattle.vm_host.specs.declared.phase.Phase.TheVariants.{Waiting}
-use Rattle.vm_host.specs.declared.state.State.TheVariants.{High}
-use Rattle.vm_host.specs.Machine.{MachineConfig}
-use Rattle.vm_host.specs.Domains.{Domain}
-use Rattle.vm_host.specs.World.{first_world}
-use Rattle.vm_host.proofs.DomainLemmas.{length-domains_of}
-use Rattle.vm_host.proofs.WorldLemmas.{first-tied, first-world}
+use Rattle.vm_host.specs.Books.{books_of}
+use Rattle.vm_host.specs.Parts.{world_of}
+use Rattle.vm_host.specs.Sound.{IsSoundWorld}
+use Rattle.vm_host.specs.World.{World, first_world}
+use Rattle.vm_host.proofs.FirstLemmas.{books-first, sound-first}
 use Rattle.vm_host.proofs.host.Host.new.Goals as goal
 
-pub stopped-slots-requires-clause-room : goal.stopped-slots-requires-clause-room
-stopped-slots-requires-clause-room c =
-    let all = ap (λ (d : List Domain). length d) (sym c.domains.view_is) ∙ length-domains_of c.domains.inside.names c.domains.inside.specs.items c.domains.invariant.paired in
-    let asked = c.len.ensures in
-    let room = c.in-Ok.ensures.capacity in
-    grind (arith, rules, all, asked, room)
+pub returns-in-Ok-clause-first : goal.returns-in-Ok-clause-first
+returns-in-Ok-clause-first c =
+    let spec = c.args.spec in
+    let names = c.into_parts-names.result.0 in
+    let specs = c.into_parts-names.result.1.items in
+    let paired = c.into_parts-names.ensures.paired.paired in
+    let frames = ap (λ (m : MachineConfig). m.frames) c.spec.view_is in
+    let overhead = ap (λ (m : MachineConfig). m.overhead) c.spec.view_is in
+    let named = sym (names_of-domains_of names specs paired) in
+    let configs = sym (configs_of-domains_of names specs paired) in
+    let pool : c.in-Ok.pool ≡ first_pool spec.frames spec.overhead (configs_of (domains_of names specs)) =
+    c.in-Ok.ensures.first ∙ (λ i. first_pool (frames i) (overhead i) (configs i)) in
+    c.first_parts.ensures
+    ∙ ((λ i. record { machine = spec; names = named i; pool = pool i; state = High; phase = Waiting }) ∙ ap (first_world spec) c.into_parts-names.ensures.parts)
 
 pub invariant_of-result : goal.invariant_of-result
 invariant_of-result c =
+    let spec = c.args.spec in
+    let names = c.into_parts-names.result.0 in
+    let specs = c.into_parts-names.result.1.items in
+    let domains = domains_of names specs in
+    let paired = c.into_parts-names.ensures.paired.paired in
+    let few = c.into_parts-names.ensures.paired.few in
     let frames = ap (λ (m : MachineConfig). m.frames) c.spec.view_is in
-    first-tied _ c.domains.inside.specs.items c.stopped-slots.ensures c.domains.invariant.paired c.domains.invariant.few
-    (c.in-Ok-new.ensures ∙ ap (λ (n : ℕ). record { total = n; out = sets.empty }) frames)
-
-pub returns-clause-first : goal.returns-clause-first
-returns-clause-first c =
-    let frames = ap (λ (m : MachineConfig). m.frames) c.spec.view_is in
-    let parts : Parts = record {
-      spec = c.args.spec;
-      machine = c.in-Ok-new.machine;
-      names = c.domains.inside.names;
-      slots = c.stopped-slots.result;
-      state = High;
-      phase = Waiting;
-    } in
-    first-world parts c.domains.inside.specs.items c.stopped-slots.ensures c.domains.invariant.paired
-    (c.in-Ok-new.ensures ∙ ap (λ (n : ℕ). record { total = n; out = sets.empty }) frames)
-    ∙ ap (first_world c.args.spec) c.domains.view_is
+    let overhead = ap (λ (m : MachineConfig). m.overhead) c.spec.view_is in
+    let named = sym (names_of-domains_of names specs paired) in
+    let configs = sym (configs_of-domains_of names specs paired) in
+    let pool : c.in-Ok.pool ≡ first_pool spec.frames spec.overhead (configs_of domains) =
+    c.in-Ok.ensures.first ∙ (λ i. first_pool (frames i) (overhead i) (configs i)) in
+    let machine : IsMachine spec = subst IsMachine c.spec.view_is c.spec.invariant in
+    let long = length-domains_of names specs paired in
+    let limits = subst (λ (list : List GuestConfig). All IsWithinLimits list) configs c.into_parts-names.ensures.paired.limits in
+    let is : world_of c.first_parts.result ≡ first_world spec domains =
+    c.first_parts.ensures ∙ (λ i. record { machine = spec; names = named i; pool = pool i; state = High; phase = Waiting }) in
+    let sound = subst (λ (w : World). IsSoundWorld w) (sym is) (sound-first spec domains machine (omega (arith, long, few)) limits) in
+    record {
+      adds_up = sound.conserves;
+      sound = λ _. sound;
+      booked = λ _. c.new-in-Ok.ensures ∙ (ap (λ (m : MachineConfig). empty_accounts m.frames m.swap m.overhead) c.spec-in-Ok.view_is ∙ (books-first spec domains ∙ ap books_of (sym is)));
+    }

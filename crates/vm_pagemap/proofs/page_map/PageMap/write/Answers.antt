@@ -1,15 +1,23 @@
-use Rattle.std.proofs.Common.{sym, ap, ◌∙◌}
+use Rattle.std.proofs.Common.{arith}
 use Rattle.std.proofs.lemmas.List.{get_or_read}
-use Rattle.vm_pagemap.specs.PageMap.{is_in}
-use Rattle.vm_pagemap.specs.declared.page_map.Page.TheVariants.{Absent}
-use Rattle.vm_pagemap.proofs.Resident.{resident-set_alike, is_in-written}
+use Rattle.vm_pagemap.proofs.Kept.{slot-reached, slot-within, shown_written}
 use Rattle.vm_pagemap.proofs.page_map.PageMap.write.Goals as goal
 
-pub invariant_of-self : goal.invariant_of-self
-invariant_of-self c =
-    let there = rw (← c.self.view_is) at c.requires.in_range in
-    rw c.write_framed.ensures
-    (c.self.invariant
-    ∙ sym
-    (resident-set_alike _ _ _
-    (ap is_in (sym (get_or_read _ _ _ there c.index_mut.ensures.value Absent)) ∙ sym (is_in-written _ _ _))))
+pub index-requires : goal.index-requires
+index-requires c =
+    let reached = slot-reached c.self.inside c.args.self.now c.self.view_is c.self.invariant c.args.page c.requires.in_range c.requires.is_in in
+    omega (arith, reached, c.self.inside.slots.ok.0)
+
+pub index_mut-requires : goal.index_mut-requires
+index_mut-requires c =
+    let reached = slot-reached c.self.inside c.args.self.now c.self.view_is c.self.invariant c.args.page c.requires.in_range c.requires.is_in in
+    let within = slot-within c.self.inside c.args.self.now c.self.view_is c.self.invariant c.args.page c.requires.in_range c.requires.is_in in
+    let slot = get_or_read c.self.inside.slots.items c.args.page _ reached c.index.ensures 0 in
+    omega (arith, within, slot, c.self.inside.held.ok.0)
+
+pub returns : goal.returns
+returns c =
+    let reached = slot-reached c.self.inside c.args.self.now c.self.view_is c.self.invariant c.args.page c.requires.in_range c.requires.is_in in
+    let slot = get_or_read c.self.inside.slots.items c.args.page _ reached c.index.ensures 0 in
+    shown_written c.self.inside c.args.self.now c.self.view_is c.self.invariant c.args.page c.requires.in_range c.requires.is_in c.index.result.now c.index_mut.result.now c.write_held.new.held c.args.offset c.args.bytes.now slot c.index_mut.ensures.value
+    c.write_held.ensures.page c.write_held.ensures.frame

@@ -6,9 +6,9 @@ use Rattle.vm_trace.proofs.bytes.Bytes.from_hex.Goals as goal
 
 pub loop-i-preserved : goal.loop-i-preserved
 loop-i-preserved c =
-    let inside : 2 * c.loop-i.i + 1 < length c.as_bytes-digits.result.now = omega arith in
-    let more = pairs_more c.loop-i.i c.as_bytes-digits.result.now inside in
-    let fits : c.loop-i.i < length c.loop-i.buffer = let len = c.loop-i.invariant.whole in let short = c.requires.fits in let same = c.as_bytes-digits.ensures.len in omega arith in
+    let inside : 2 * c.loop-i.i + 1 < length c.args.digits.now = omega arith in
+    let more = pairs_more c.loop-i.i c.args.digits.now inside in
+    let fits : c.loop-i.i < length c.loop-i.buffer = let len = c.loop-i.invariant.whole in let short = c.requires.fits in omega arith in
     record {
       whole = length-set c.loop-i.buffer c.loop-i.i _ ∙ c.loop-i.invariant.whole;
       spelled =
@@ -20,9 +20,9 @@ loop-i-preserved c =
 
 pub invariant_of-result : goal.invariant_of-result
 invariant_of-result c =
-    let end : c.loop-i.i ≡ length c.as_bytes-digits.result.now / 2 = let below = c.loop-i.auto.i-end in let above = c.loop-i-test.false in omega arith in
+    let end : c.loop-i.i ≡ length c.args.digits.now / 2 = let below = c.loop-i.auto.i-end in let above = c.loop-i-test.false in omega arith in
     record {
       whole = c.loop-i.invariant.whole;
-      within = let short = c.requires.fits in let same = c.as_bytes-digits.ensures.len in omega arith;
+      within = let short = c.requires.fits in omega arith;
       zeros = ap (λ n. drop n c.loop-i.buffer) (sym end) ∙ c.loop-i.invariant.zeros ∙ ap (λ n. replicate (64 - n) 0) end;
     }

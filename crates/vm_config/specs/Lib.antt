@@ -1,0 +1,16 @@
+pub mod Outcomes
+pub mod ConfigErrors
+pub mod Versions
+pub mod Names
+pub mod Keys
+pub mod Places
+pub mod Trace
+pub mod Guests
+pub mod Schedule
+pub mod Migration
+pub mod Reading
+pub mod Located
+pub mod FirstFault
+pub mod Limits
+pub mod Seen
+pub mod Named

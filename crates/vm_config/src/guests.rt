@@ -1,0 +1,186 @@
+// The guests of a configuration.
+ghost use Rattle.std.specs.Prelude.{◌≡◌, ◌≤◌, ◌<◌, ◌++◌, ◌∷◌, [], map, codes, length, IfOk, IfErr, OnOk, Err, None, vec_len};
+ghost use Rattle.serde_json.specs.Find.{get};
+ghost use Rattle.serde_json.specs.View.{view};
+ghost use Rattle.vm_guest.specs.Config.{IsWithinLimits};
+ghost use Rattle.vm_domains.specs.Domains.{position_of};
+ghost use Rattle.vm_config.specs.Guests.{no_guests, with_guest};
+ghost use Rattle.vm_domains.specs.Limits.{AreWithinLimits};
+ghost use Rattle.vm_config.specs.Located.{guest_at, guests_at};
+ghost use Rattle.vm_config.specs.Outcomes.{Answers};
+ghost use Rattle.vm_config.specs.Places.{IsOrLacksMemory};
+ghost use Rattle.vm_config.specs.Named.{listed_of, listed_seen, Reads};
+ghost use Rattle.vm_config.specs.Reading.{name_in};
+ghost use Rattle.vm_config.specs.Versions.{AreLimits};
+
+use crate::autostart::Autostart;
+use crate::error::ConfigError;
+use crate::fault::{Fault, at};
+use crate::keys::{flag_if_known, flag_or_default, number, number_or_default, text, texts_or_none};
+use crate::names::is_name;
+use crate::place::{Key, Part};
+use crate::trace::trace;
+use crate::version::Limits;
+use serde_json::Value;
+use std::alloc::{AllocError, Global};
+use vm_domains::Domains;
+use vm_guest::GuestSpec;
+
+const MAX_SHARES: u64 = 1_000_000;
+
+const DEFAULT_SHARES: u64 = 1000;
+
+const MAX_SAMPLES: u64 = 1000;
+
+const DEFAULT_SAMPLES: u64 = 100;
+
+const MAX_PERIOD: u64 = 1_000_000;
+
+const DEFAULT_PERIOD: u64 = 1000;
+
+const MAX_RATE: u64 = 256;
+
+const DEFAULT_RATE: u64 = 16;
+
+const MAX_TRACE: usize = 1_000_000;
+
+// A guest by its name, as it is set up, and whether it starts by itself.
+#[derive(Drop)]
+struct Named<'v> {
+    name: &'v str,
+    spec: GuestSpec,
+    autostart: bool,
+}
+
+// Guests, and of each whether it starts by itself.
+#[derive(Drop)]
+pub(crate) struct GuestList {
+    pub(crate) domains: Domains,
+    pub(crate) autostart: Autostart,
+}
+
+// A name that no earlier guest has.
+fn fresh_name<'v>(object: &'v Value, earlier: &Domains) -> Result<&'v str, ConfigError>
+    ensures name { Answers result (λ s. s.now)
+        (name_in earlier.now (get (codes "name") (view object.now))) }
+    ensures new_name { IfOk result (λ s. position_of s.now earlier.now ≡ None) }
+{
+    let name = text(object, "name")?;
+    if !is_name(name) {
+        return Err(ConfigError::Name);
+    }
+    if earlier.position(name).is_some() {
+        return Err(ConfigError::Twice);
+    }
+    Ok(name)
+}
+
+// One guest, after the earlier ones.
+#[tactic(auto, unfolding(crate::specs::Located::keys_of_guest))]
+fn guest<'v>(
+    alloc: Global,
+    limits: &Limits,
+    quantum: u32,
+    object: &'v Value,
+    earlier: &Domains,
+) -> Result<Named<'v>, Fault>
+    requires limits { AreLimits limits.now }
+    requires some_quantum { 1 ≤ quantum }
+    requires short_quantum { quantum ≤ 65536 }
+    ensures guest { IsOrLacksMemory (listed_seen result) (guest_at limits.now quantum (view object.now) earlier.now) }
+    ensures new_name { IfOk result (λ named. position_of named.name.now earlier.now ≡ None) }
+    ensures within { IfOk result (λ named. IsWithinLimits named.spec) }
+{
+    let part = Part::Guest(earlier.len());
+    let name = at(part, Key::Name, fresh_name(object, earlier))?;
+    let size = number(object, part, Key::Size, 1, limits.size)?;
+    let min = number(object, part, Key::Min, 1, size)?;
+    let shares = number_or_default(object, part, Key::Shares, 1, MAX_SHARES, DEFAULT_SHARES)?;
+    let samples = number_or_default(object, part, Key::Samples, 1, MAX_SAMPLES, DEFAULT_SAMPLES)?;
+    let period = number_or_default(object, part, Key::Period, 1, MAX_PERIOD, DEFAULT_PERIOD)?;
+    let rate = number_or_default(object, part, Key::Rate, 1, MAX_RATE, DEFAULT_RATE)?;
+    let seed = number_or_default(object, part, Key::Seed, 0, u64::MAX, 0)?;
+    let stream = number_or_default(object, part, Key::Stream, 0, u64::MAX, 0)?;
+    let autostart = flag_or_default(object, part, Key::Autostart, true)?;
+    let tell = flag_if_known(limits.has_tell, object, part, Key::Tell, true)?;
+    let texts = at(part, Key::Trace, texts_or_none(object, "trace", MAX_TRACE))?;
+    let trace = trace(alloc, limits.size as u32, size as u32, earlier.len(), texts);
+    let trace = at(part, Key::Trace, trace)?;
+    let spec = GuestSpec {
+        size: size as u32,
+        min: min as u32,
+        shares: shares as u32,
+        samples: samples as u32,
+        period: period as u32,
+        rate: rate as u32,
+        quantum,
+        seed,
+        stream,
+        tell,
+        trace,
+    };
+    Ok(Named {
+        name,
+        spec,
+        autostart,
+    })
+}
+
+// Adds a guest at the end.
+fn add(guests: &mut GuestList, guest: Named<'_>) -> Result<(), AllocError>
+    requires new_name { position_of guest.name.now guests.old.domains ≡ None }
+    requires few { length guests.old.domains < 256 }
+    ensures ok { OnOk result (guests.new ≡ with_guest guests.old (listed_of guest.entry)) }
+{
+    guests
+        .domains
+        .push(guest.name, guest.spec)
+        .map_err(|_| AllocError)?;
+    guests.autostart.push(guest.autostart)
+}
+
+// One guest more, whose value goes when it was read.
+fn read_guest(
+    alloc: Global,
+    limits: &Limits,
+    quantum: u32,
+    object: Value,
+    guests: &mut GuestList,
+) -> Result<(), Fault>
+    requires limits { AreLimits limits.now }
+    requires few { length guests.old.domains < 256 }
+    requires some_quantum { 1 ≤ quantum }
+    requires short_quantum { quantum ≤ 65536 }
+    ensures ok { OnOk result (Reads guests.old guests.new (guest_at limits.now quantum (view object) guests.old.domains)) }
+    ensures err { IfErr result (λ e. IsOrLacksMemory (Err e) (guest_at limits.now quantum (view object) guests.old.domains)) }
+{
+    let guest = guest(alloc, limits, quantum, &object, &guests.domains)?;
+    add(guests, guest)?;
+    Ok(())
+}
+
+// The guests, one by one.
+pub(crate) fn guests(
+    alloc: Global,
+    limits: &Limits,
+    quantum: u32,
+    objects: Vec<Value>,
+) -> Result<GuestList, Fault>
+    requires limits { AreLimits limits.now }
+    requires few { vec_len objects ≤ 256 }
+    requires some_quantum { 1 ≤ quantum }
+    requires short_quantum { quantum ≤ 65536 }
+    ensures guests { IsOrLacksMemory result (guests_at limits.now quantum (map view objects.items) no_guests) }
+    ensures within { IfOk result (λ guests. AreWithinLimits guests.domains) }
+    ensures few { IfOk result (λ guests. length guests.domains ≤ 256) }
+    ensures autostart { IfOk result (λ guests. length guests.autostart ≡ length guests.domains) }
+{
+    let mut guests = GuestList {
+        domains: Domains::new(alloc),
+        autostart: Autostart::new(alloc),
+    };
+    for object in objects {
+        read_guest(alloc, limits, quantum, object, &mut guests)?;
+    }
+    Ok(guests)
+}

@@ -1,0 +1,42 @@
+//! From the text of a configuration to what a run is made of: a machine, its guests, and the commands for them.
+//!
+//! [`read_config`] reads a configuration of version 1 or 2. [`read_config_v1`] reads one of version 1 alone, whose tax and percents
+//! are whole percents, and [`migrate`] gives the configuration in hundredths of a percent that it stands for. A text is a
+//! configuration or has a first fault, a [`ConfigError`], and [`explain`] tells the [`Place`] of that fault too.
+//!
+//! A clause sees a [`Config`] as its machine, its number of epochs and lists of domains, truth values and command lines.
+//! `specs/Reading.antt` has the configuration that a text means, key by key; `specs/Versions.antt` what differs between the
+//! versions, `specs/Keys.antt` what may stand at one key, and `specs/Migration.antt` the way from version 1 to version 2.
+//! `specs/Located.antt` has the same reading with the place of each fault, and `specs/FirstFault.antt` what a place says.
+#![tactic(auto)]
+
+mod autostart;
+mod commands;
+mod config;
+mod error;
+mod fault;
+mod guests;
+mod keys;
+mod machine;
+mod migration;
+mod names;
+mod place;
+#[cfg(test)]
+mod place_tests;
+mod reading;
+mod schedule;
+#[cfg(test)]
+mod tests;
+mod trace;
+mod version;
+
+pub use autostart::Autostart;
+pub use config::{Config, ConfigV1};
+pub use error::ConfigError;
+pub use fault::Fault;
+pub use migration::migrate;
+pub use place::{Key, Part, Place};
+pub use reading::{explain, read_config, read_config_v1};
+pub use schedule::{Schedule, Scheduled};
+pub use vm_domains::{Domains, MachineSpec};
+pub use vm_trace::TraceError;

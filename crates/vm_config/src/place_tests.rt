@@ -1,0 +1,306 @@
+use crate::{ConfigError, Fault, Key, Part, Place, TraceError, explain};
+use std::process::Abort;
+use std::test::Fail;
+
+// The first fault of a text.
+fn first_fault(rt: &(impl AllocGlobal + Abort), text: &str) -> Option<Fault> {
+    explain(rt.alloc(), text.as_bytes()).expect(rt, "there is memory")
+}
+
+// A configuration of version 2 with two guests of 4 pages and two commands, with these keys at the end of the root, of guest 1
+// and of command 1. Of a key that comes twice the last one counts.
+fn text_with(rt: &(impl AllocGlobal + Abort), root: &str, guest: &str, command: &str) -> String {
+    let alloc = rt.alloc();
+    format!(in alloc;
+        "{{\"version\":2,\"frames\":10,\"epochs\":1,\"guests\":[{{\"name\":\"a\",\"size\":4,\"min\":1}},\
+{{\"name\":\"b\",\"size\":4,\"min\":1{guest}}}],\
+\"commands\":[{{\"at\":0,\"line\":\"x\"}},{{\"at\":0,\"line\":\"x\"{command}}}]{root}}}"
+    )
+    .expect(rt, "there is memory")
+}
+
+// A key with no value.
+fn null_at(rt: &(impl AllocGlobal + Abort), key: &str) -> String {
+    let alloc = rt.alloc();
+    format!(in alloc; ",\"{key}\":null").expect(rt, "there is memory")
+}
+
+#[test]
+fn each_key_is_a_place(rt: HostRuntime) {
+    let keys = [
+        (Part::Root, Key::Version, "version"),
+        (Part::Root, Key::Frames, "frames"),
+        (Part::Root, Key::Swap, "swap"),
+        (Part::Root, Key::Overhead, "overhead"),
+        (Part::Root, Key::Tax, "tax"),
+        (Part::Root, Key::Percent, "percent"),
+        (Part::Root, Key::PageRate, "page_rate"),
+        (Part::Root, Key::Quantum, "quantum"),
+        (Part::Root, Key::Epochs, "epochs"),
+        (Part::Root, Key::Guests, "guests"),
+        (Part::Root, Key::Commands, "commands"),
+        (Part::Guest(1), Key::Name, "name"),
+        (Part::Guest(1), Key::Size, "size"),
+        (Part::Guest(1), Key::Min, "min"),
+        (Part::Guest(1), Key::Shares, "shares"),
+        (Part::Guest(1), Key::Samples, "samples"),
+        (Part::Guest(1), Key::Period, "period"),
+        (Part::Guest(1), Key::Rate, "rate"),
+        (Part::Guest(1), Key::Seed, "seed"),
+        (Part::Guest(1), Key::Stream, "stream"),
+        (Part::Guest(1), Key::Autostart, "autostart"),
+        (Part::Guest(1), Key::Tell, "tell"),
+        (Part::Guest(1), Key::Trace, "trace"),
+        (Part::Command(1), Key::At, "at"),
+        (Part::Command(1), Key::Line, "line"),
+    ];
+    for (part, key, name) in keys {
+        let null = null_at(&rt, name);
+        let text = match part {
+            Part::Root => text_with(&rt, &null, "", ""),
+            Part::Guest(_) => text_with(&rt, "", &null, ""),
+            Part::Command(_) => text_with(&rt, "", "", &null),
+        };
+        let error = ConfigError::Kind;
+        let place = Place::Key { part, key };
+        assert_eq!(rt;
+            first_fault(&rt, &text),
+            Some(Fault { error, place }),
+            "{text}"
+        );
+        assert_eq!(rt; key.name(), name);
+    }
+}
+
+#[test]
+fn the_first_fault_has_its_place(rt: HostRuntime) {
+    let step = ConfigError::Trace {
+        guest: 1,
+        step: 2,
+        fault: TraceError::Unknown,
+    };
+    // Keys of the root, of guest 1 and of command 1; the first fault in the order of the tables, and where it is.
+    let texts = [
+        (
+            ",\"swap\":null,\"frames\":0",
+            "",
+            "",
+            ConfigError::Range,
+            Part::Root,
+            Key::Frames,
+        ),
+        (
+            ",\"guests\":[1]",
+            "",
+            ",\"at\":\"\"",
+            ConfigError::Kind,
+            Part::Root,
+            Key::Guests,
+        ),
+        (
+            ",\"commands\":1",
+            ",\"size\":0",
+            "",
+            ConfigError::Kind,
+            Part::Root,
+            Key::Commands,
+        ),
+        (
+            ",\"guests\":[{}]",
+            "",
+            "",
+            ConfigError::Missing,
+            Part::Guest(0),
+            Key::Name,
+        ),
+        (
+            ",\"guests\":[{\"name\":\"a\",\"size\":1},{}]",
+            "",
+            "",
+            ConfigError::Missing,
+            Part::Guest(0),
+            Key::Min,
+        ),
+        (
+            "",
+            ",\"min\":5",
+            ",\"at\":null",
+            ConfigError::Range,
+            Part::Guest(1),
+            Key::Min,
+        ),
+        (
+            "",
+            ",\"size\":0,\"name\":\"-\"",
+            "",
+            ConfigError::Name,
+            Part::Guest(1),
+            Key::Name,
+        ),
+        (
+            "",
+            ",\"name\":\"a\"",
+            "",
+            ConfigError::Twice,
+            Part::Guest(1),
+            Key::Name,
+        ),
+        (
+            "",
+            ",\"trace\":[\"x\"],\"tell\":1",
+            "",
+            ConfigError::Kind,
+            Part::Guest(1),
+            Key::Tell,
+        ),
+        (
+            "",
+            ",\"trace\":[\"x\",1]",
+            "",
+            ConfigError::Kind,
+            Part::Guest(1),
+            Key::Trace,
+        ),
+        (
+            "",
+            ",\"trace\":[\"i\",\"i\",\"x\"]",
+            "",
+            step,
+            Part::Guest(1),
+            Key::Trace,
+        ),
+        (
+            "",
+            "",
+            ",\"line\":\"\",\"at\":10000",
+            ConfigError::Range,
+            Part::Command(1),
+            Key::At,
+        ),
+        (
+            "",
+            "",
+            ",\"line\":\"\"",
+            ConfigError::Range,
+            Part::Command(1),
+            Key::Line,
+        ),
+        (
+            ",\"commands\":[{}]",
+            "",
+            "",
+            ConfigError::Missing,
+            Part::Command(0),
+            Key::At,
+        ),
+    ];
+    for (root, guest, command, error, part, key) in texts {
+        let text = text_with(&rt, root, guest, command);
+        let place = Place::Key { part, key };
+        assert_eq!(rt;
+            first_fault(&rt, &text),
+            Some(Fault { error, place }),
+            "{text}"
+        );
+    }
+}
+
+#[test]
+fn whole_texts_are_explained(rt: HostRuntime) {
+    let key = |key| Place::Key {
+        part: Part::Root,
+        key,
+    };
+    let texts = [
+        ("{\"version\":1", Some((ConfigError::NotJson, Place::Text))),
+        ("[]", Some((ConfigError::Kind, Place::Text))),
+        ("{}", Some((ConfigError::Missing, key(Key::Version)))),
+        (
+            "{\"version\":3}",
+            Some((ConfigError::Range, key(Key::Version))),
+        ),
+        (
+            "{\"version\":1}",
+            Some((ConfigError::Missing, key(Key::Frames))),
+        ),
+        (
+            "{\"version\":2}",
+            Some((ConfigError::Missing, key(Key::Frames))),
+        ),
+        (
+            "{\"version\":1,\"frames\":65537}",
+            Some((ConfigError::Range, key(Key::Frames))),
+        ),
+        (
+            "{\"version\":2,\"frames\":65537}",
+            Some((ConfigError::Missing, key(Key::Epochs))),
+        ),
+        (
+            "{\"version\":1,\"frames\":1,\"epochs\":1,\"guests\":[]}",
+            None,
+        ),
+        (
+            "{\"version\":2,\"frames\":1,\"epochs\":1,\"guests\":[]}",
+            None,
+        ),
+    ];
+    for (text, wanted) in texts {
+        let wanted = wanted.map(|(error, place)| Fault { error, place });
+        assert_eq!(rt; first_fault(&rt, text), wanted, "{text}");
+    }
+}
+
+#[test]
+fn faults_have_texts_with_places(rt: HostRuntime) -> Result<(), Fail> {
+    let alloc = rt.alloc();
+    let step = ConfigError::Trace {
+        guest: 2,
+        step: 5,
+        fault: TraceError::Hex,
+    };
+    let texts = [
+        (
+            ConfigError::NotJson,
+            Place::Text,
+            "the text: not a JSON text",
+        ),
+        (ConfigError::Kind, Place::Text, "the text: not an object"),
+        (
+            ConfigError::Missing,
+            Place::Key {
+                part: Part::Root,
+                key: Key::Frames,
+            },
+            "key \"frames\": a required key is absent",
+        ),
+        (
+            ConfigError::Kind,
+            Place::Key {
+                part: Part::Guest(3),
+                key: Key::Size,
+            },
+            "guest 3, key \"size\": a value is not of its key's kind",
+        ),
+        (
+            step,
+            Place::Key {
+                part: Part::Guest(2),
+                key: Key::Trace,
+            },
+            "guest 2, key \"trace\": step 5: not hexadecimal bytes",
+        ),
+        (
+            ConfigError::Range,
+            Place::Key {
+                part: Part::Command(0),
+                key: Key::Line,
+            },
+            "command 0, key \"line\": a value is outside its key's range",
+        ),
+    ];
+    for (error, place, text) in texts {
+        let fault = Fault { error, place };
+        assert_eq!(rt; format!(in alloc; "{fault}")?.as_str(), text);
+    }
+    Ok(())
+}

@@ -1,0 +1,81 @@
+// The steps of a guest, read from their texts.
+ghost use Rattle.std.specs.Prelude.{◌≡◌, ◌≤◌, ◌<◌, [], map, length, All, IfOk};
+ghost use Rattle.serde_json.specs.View.{view};
+ghost use Rattle.vm_trace.specs.Limits.{IsStep, IsWithin};
+ghost use Rattle.vm_config.specs.Keys.{text_of};
+ghost use Rattle.vm_config.specs.Outcomes.{IsOrMemory};
+ghost use Rattle.vm_config.specs.Reading.{steps_from};
+ghost use Rattle.vm_config.specs.Trace.{on_page, step_in, within_pages};
+
+use crate::error::ConfigError;
+use crate::keys::text_of;
+use serde_json::Value;
+use std::alloc::Global;
+use vm_trace::{Action, Step, Trace, TraceError, parse_step_within};
+
+// The step, if its page is below the size.
+fn on_page(size: u32, page: u32, step: Step) -> Result<Step, TraceError>
+    ensures step { result ≡ on_page size page step }
+    ensures within { IfOk result (λ _. page < size) }
+{
+    if page < size {
+        Ok(step)
+    } else {
+        Err(TraceError::Range)
+    }
+}
+
+// The step, if its page is one of a guest with this many pages.
+fn within_pages(size: u32, step: Step) -> Result<Step, TraceError>
+    ensures step { result ≡ within_pages size step }
+    ensures within { IfOk result (IsWithin size) }
+    ensures bounded { IfOk result IsStep }
+{
+    match step.action() {
+        Action::Read { page, .. } => on_page(size, page, step),
+        Action::Write { page, .. } => on_page(size, page, step),
+        Action::Free { page } => on_page(size, page, step),
+        Action::Idle => Ok(step),
+        Action::Post { .. } => Ok(step),
+    }
+}
+
+// The step that a text is within these pages, for a guest with this many.
+fn step_in(pages: u32, size: u32, text: &str) -> Result<Step, TraceError>
+    requires some { 1 ≤ pages }
+    requires few { pages ≤ 262144 }
+    ensures step { result ≡ step_in pages size text.now }
+    ensures within { IfOk result (IsWithin size) }
+    ensures bounded { IfOk result IsStep }
+{
+    let step = parse_step_within(text, pages)?;
+    within_pages(size, step)
+}
+
+// The steps, or the first fault with its place.
+pub(crate) fn trace(
+    alloc: Global,
+    pages: u32,
+    size: u32,
+    guest: usize,
+    texts: &[Value],
+) -> Result<Trace, ConfigError>
+    requires some { 1 ≤ pages }
+    requires few { pages ≤ 262144 }
+    ensures steps { IsOrMemory result (steps_from pages size guest (map text_of (map view texts.now)) []) }
+    ensures within { IfOk result (All (IsWithin size)) }
+    ensures bounded { IfOk result (All IsStep) }
+    ensures count { IfOk result (λ steps. length steps ≤ length texts.now) }
+{
+    let mut steps = Trace::with_capacity(alloc, texts.len()).map_err(|_| ConfigError::Memory)?;
+    for text in texts {
+        let place = steps.len();
+        let step = step_in(pages, size, text_of(text)).map_err(|fault| ConfigError::Trace {
+            guest,
+            step: place,
+            fault,
+        })?;
+        steps.push(step).map_err(|_| ConfigError::Memory)?;
+    }
+    Ok(steps)
+}

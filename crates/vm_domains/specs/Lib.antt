@@ -1,0 +1,3 @@
+pub mod Machine
+pub mod Domains
+pub mod Limits

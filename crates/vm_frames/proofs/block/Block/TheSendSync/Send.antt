@@ -1,0 +1,8 @@
+use denote.RattleType.{RattleType}
+use denote.Param.Send.{IsSend, Frees}
+use Rattle.std.specs.declared.alloc.Allocator.{Ghosts}
+use Rattle.vm_frames.proofs.BlockCrosses.{block-send}
+use Rattle.vm_frames.specs.contracts.block.Block as C
+
+pub send : (A : RattleType) (g : Ghosts A.Denot) → IsSend A → Frees g g.dealloc_token → IsSend (C.the_row A g)
+send = block-send

@@ -1,0 +1,8 @@
+use denote.RattleType.{RattleType}
+use denote.Param.Send.{IsSync}
+use Rattle.std.specs.declared.alloc.Allocator.{Ghosts}
+use Rattle.vm_frames.proofs.BlockCrosses.{block-sync}
+use Rattle.vm_frames.specs.contracts.block.Block as C
+
+pub sync : (A : RattleType) (g : Ghosts A.Denot) → IsSync (C.the_row A g)
+sync = block-sync

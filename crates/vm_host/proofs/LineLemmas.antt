@@ -1,0 +1,54 @@
+-- What lines and a whole boundary keep.
+use Rattle.std.proofs.Common.{◌≡◌, ℕ, List, [], ◌∷◌, Result, Ok, Err, refl, subst, sym}
+use Rattle.vm_commands.specs.declared.command.Command.{Command}
+use Rattle.vm_commands.specs.declared.error.LineFault.{LineFault}
+use Rattle.vm_commands.specs.LineGrammar.{AsksFor, Form, FormDestroy, FormMemory, FormMinimum, FormShares, FormStart, FormStatistics}
+use Rattle.vm_commands.specs.Lines.{command_of}
+use Rattle.vm_commands.proofs.LineLaws.{IsLine-from_read}
+use Rattle.vm_host.specs.declared.boundary.Refusal.{Refusal}
+use Rattle.vm_host.specs.Boundary.{bounded_by, opened}
+use Rattle.vm_host.specs.Commands.{after_line, after_lines, decided}
+use Rattle.vm_host.specs.Decisions.{◌>>=◌, Admitted, admission_of, decision_on, readable}
+use Rattle.vm_host.specs.Obeying.{IsInRange}
+use Rattle.vm_host.specs.Sound.{IsSoundWorld}
+use Rattle.vm_host.specs.World.{World}
+use Rattle.vm_host.proofs.SoundLemmas.{obeys, sound-finished, sound-opened}
+use Rattle.vm_reclaim.specs.Policy.{Policy}
+
+-- the number of a command that was read is one that a line can have
+asked-range : (form : Form) (command : Command) → AsksFor form command → IsInRange command
+asked-range (FormStart domain) command asks = subst IsInRange (sym asks) tt
+asked-range (FormDestroy domain) command asks = subst IsInRange (sym asks) tt
+asked-range (FormMemory domain size) command asks = subst IsInRange (sym asks.2) tt
+asked-range (FormMinimum domain size) command asks = subst IsInRange (sym asks.3) asks.2
+asked-range (FormShares domain number) command asks =
+    let shares = asks.1 in subst IsInRange (sym asks.2) (shares.least, shares.most)
+asked-range (FormStatistics domain) command asks = subst IsInRange (sym asks) tt
+
+pub read-range : (line : List ℕ) (command : Command) → command_of line ≡ Ok command → IsInRange command
+read-range line command read = let is = IsLine-from_read line command read in asked-range is.form command is.asks
+
+-- the command and its position, where it is admitted
+abbrev pub admitted_at : Command → Result ℕ Refusal → Result Admitted Refusal
+admitted_at command decision = decision >>= (λ position. Ok (record { command = command; position = position }))
+
+pub sound-admitted : (policy : Policy) (w : World) (command : Command) (decision : Result ℕ Refusal) → IsSoundWorld w → IsInRange command → decision_on w command ≡ decision
+    → IsSoundWorld (decided policy w (admitted_at command decision))
+sound-admitted policy w command (Ok position) sound range is = (obeys policy.tax w command position sound range is).sound
+sound-admitted policy w command (Err refusal) sound range is = sound
+
+sound-read : (policy : Policy) (w : World) (line : List ℕ) (read : Result Command LineFault) → IsSoundWorld w → command_of line ≡ read
+    → IsSoundWorld (decided policy w (readable read >>= admission_of w))
+sound-read policy w line (Ok command) sound is = sound-admitted policy w command (decision_on w command) sound (read-range line command is) refl
+sound-read policy w line (Err fault) sound is = sound
+
+pub sound-line : (policy : Policy) (w : World) (line : List ℕ) → IsSoundWorld w → IsSoundWorld (after_line policy w line)
+sound-line policy w line sound = sound-read policy w line (command_of line) sound refl
+
+pub sound-lines : (policy : Policy) (w : World) (lines : List (List ℕ)) → IsSoundWorld w → IsSoundWorld (after_lines policy w lines)
+sound-lines policy w [] sound = sound
+sound-lines policy w (line ∷ lines) sound = sound-lines policy (after_line policy w line) lines (sound-line policy w line sound)
+
+-- a boundary leaves a sound host
+pub bounded-sound : (policy : Policy) (w : World) (lines : List (List ℕ)) → IsSoundWorld w → IsSoundWorld (bounded_by policy w lines)
+bounded-sound policy w lines sound = sound-finished policy (after_lines policy (opened w) lines) (sound-lines policy (opened w) lines (sound-opened w sound))

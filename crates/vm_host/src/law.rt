@@ -1,0 +1,13 @@
+// What is true of every boundary, by its definition alone.
+ghost use Rattle.std.specs.Prelude.{ℕ, List};
+ghost use Rattle.vm_host.specs.Boundary.{bounded};
+ghost use Rattle.vm_host.specs.Fairness.{IsFairBoundary};
+ghost use Rattle.vm_host.specs.Sound.{IsSoundWorld};
+ghost use Rattle.vm_host.specs.World.{World};
+ghost use Rattle.vm_reclaim.specs.Policy.{policy_of};
+
+/// A boundary leaves a sound host sound, whatever its lines, and each of its revocations is fair.
+pub fn law_boundary()
+    ensures sound { (w : World) (lines : List (List ℕ)) → IsSoundWorld w → IsSoundWorld (bounded w lines) }
+    ensures fair { (w : World) (lines : List (List ℕ)) → IsSoundWorld w → IsFairBoundary (policy_of w.machine) w lines }
+{}

@@ -1,0 +1,191 @@
+// A host under test, and what it tells.
+ghost use Rattle.std.specs.Prelude.{◌≤◌};
+
+use crate::{
+    Boundary, Domains, Gate, Host, HostError, Lines, MachineSpec, Open, Outcome, Paged, Plan, State,
+};
+use std::process::Abort;
+use std::thread::Threads;
+
+// A host, of which no clause says more than that it is one.
+pub(super) struct LoneHost {
+    host: Host,
+}
+
+impl LoneHost {
+    pub(super) fn new(
+        rt: &(impl AllocGlobal + Abort),
+        machine: MachineSpec,
+        domains: Domains,
+    ) -> LoneHost {
+        match Host::new(rt.alloc(), machine, domains) {
+            Ok(host) => LoneHost { host },
+            Err(_domains) => panic!(rt; "memory"),
+        }
+    }
+
+    // A boundary for which memory may be refused.
+    pub(super) fn try_boundary(
+        &mut self,
+        rt: &impl AllocGlobal,
+        lines: &Lines,
+    ) -> Result<Boundary, HostError> {
+        self.host.boundary(rt.alloc(), lines)
+    }
+
+    // A boundary with these lines.
+    pub(super) fn boundary(&mut self, rt: &(impl AllocGlobal + Abort), lines: &[&str]) -> Boundary {
+        self.try_boundary(rt, &lines_of(rt, lines))
+            .expect(rt, "memory")
+    }
+
+    // An epoch for which memory may be refused.
+    pub(super) fn try_epoch(
+        &mut self,
+        rt: &(impl AllocGlobal + Abort + Threads + Sync),
+        gate: &(impl Gate + Sync),
+        workers: u32,
+    ) -> Result<(), HostError>
+        requires { (1 ≤ workers) × (workers ≤ 64) }
+    {
+        assert!(rt; self.host.ready());
+        self.host.epoch(rt, rt.alloc(), gate, workers)
+    }
+
+    // The epoch behind it.
+    pub(super) fn epoch(
+        &mut self,
+        rt: &(impl AllocGlobal + Abort + Threads + Sync),
+        gate: &(impl Gate + Sync),
+        workers: u32,
+    )
+        requires { (1 ≤ workers) × (workers ≤ 64) }
+    {
+        self.try_epoch(rt, gate, workers).expect(rt, "memory");
+        assert!(rt; !self.host.ready());
+    }
+
+    // Both, on one thread.
+    pub(super) fn round(
+        &mut self,
+        rt: &(impl AllocGlobal + Abort + Threads + Sync),
+        lines: &[&str],
+    ) -> Boundary {
+        let boundary = self.boundary(rt, lines);
+        self.epoch(rt, &Open, 1);
+        boundary
+    }
+
+    // What can be read of it.
+    pub(super) fn host(&self) -> &Host {
+        &self.host
+    }
+
+    pub(super) fn close(self) {
+        let LoneHost { host } = self;
+        host.close();
+    }
+}
+
+// Lines with these texts.
+fn lines_of(rt: &(impl AllocGlobal + Abort), texts: &[&str]) -> Lines {
+    let mut lines = Lines::new(rt.alloc());
+    for text in texts {
+        lines.push(text).expect(rt, "memory");
+    }
+    lines
+}
+
+// What a boundary told of the first guest and of the second.
+#[derive(Clone, Copy, Debug, PartialEq, Eq)]
+pub(super) struct Told {
+    pub(super) state: State,
+    pub(super) free: u32,
+    // How often each target fell.
+    pub(super) revoked: [usize; 2],
+    // How often each target rose.
+    pub(super) granted: [usize; 2],
+    // The one guest that gave up frames.
+    pub(super) paged: Option<Paged>,
+    // The one guest that is blocked.
+    pub(super) blocked: Option<u32>,
+}
+
+// A boundary that takes and gives nothing.
+pub(super) fn quiet(state: State, free: u32) -> Told {
+    Told {
+        state,
+        free,
+        revoked: [0, 0],
+        granted: [0, 0],
+        paged: None,
+        blocked: None,
+    }
+}
+
+// How often a position is told.
+fn count_of(plan: &Plan, position: u32) -> usize {
+    let mut count = 0usize;
+    for stretch in plan.stretches() {
+        if stretch.position == position {
+            count = count.saturating_add(stretch.count as usize);
+        }
+    }
+    count
+}
+
+// The only one of a list, if there is one.
+fn only<T: Copy>(items: &[T]) -> Option<T> {
+    let first = items.first()?;
+    if items.len() == 1 { Some(*first) } else { None }
+}
+
+pub(super) fn told_by(boundary: &Boundary) -> Told {
+    let revoked = &boundary.revoked;
+    let granted = &boundary.granted;
+    Told {
+        state: boundary.state,
+        free: boundary.free,
+        revoked: [count_of(revoked, 0), count_of(revoked, 1)],
+        granted: [count_of(granted, 0), count_of(granted, 1)],
+        paged: only(boundary.paged.as_slice()),
+        blocked: only(boundary.blocked.as_slice()),
+    }
+}
+
+// How often the targets of the first guest and of the second fell for the line at a place.
+pub(super) fn taken_for(boundary: &Boundary, place: usize) -> Option<[usize; 2]> {
+    let taken = boundary.answers.as_slice().get(place)?.revocations();
+    Some([count_of(taken, 0), count_of(taken, 1)])
+}
+
+// Each line was answered with its text, and came to this.
+pub(super) fn assert_answers(rt: &impl Abort, boundary: &Boundary, wanted: &[(&str, Outcome)]) {
+    let answers = boundary.answers.as_slice();
+    assert_eq!(rt; answers.len(), wanted.len());
+    for (answer, (line, outcome)) in answers.iter().zip(wanted) {
+        assert_eq!(rt; answer.line(), *line);
+        assert_eq!(rt; answer.outcome(), *outcome, "{line}");
+    }
+}
+
+// How many frames a guest is to have, and how many it has.
+pub(super) fn frames_of(host: &Host, position: usize) -> Option<(u32, u32)> {
+    let view = host.view(position)?;
+    Some((view.target, view.held))
+}
+
+// How many steps of its trace a guest has done.
+pub(super) fn steps_done(host: &Host, position: usize) -> Option<u32> {
+    Some(host.view(position)?.done)
+}
+
+// The first byte of a page, where it is shown.
+pub(super) fn first_byte(host: &Host, name: &str, page: u32) -> Option<u8> {
+    let mut bytes = [7; 4096];
+    if host.peek(name, page, &mut bytes) {
+        Some(bytes[0])
+    } else {
+        None
+    }
+}

@@ -1,0 +1,24 @@
+use Rattle.std.proofs.Common.{◌∙◌, ap, refl}
+use Rattle.vm_guest.specs.Boundary.{revoked}
+use Rattle.vm_pool.specs.Changes.{changed}
+use Rattle.vm_pool.proofs.PoolLemmas.{pool-changed, pool-moved, view-changed, within-slots}
+use Rattle.vm_pool.proofs.SlotLemmas.{keeps-revoked}
+use Rattle.vm_pool.proofs.pool.Pool.revoke.Goals as goal
+
+pub invariant_of-self : goal.invariant_of-self
+invariant_of-self c =
+    let p = c.self.inside in
+    let i = c.args.position in
+    let was = c.index_mut.result.now in
+    let there = within-slots p c.args.self.now i c.self.view_is c.requires.within in
+    let moves = pool-changed p i was c.revoke.new.slot revoked keeps-revoked c.self.invariant there c.index_mut.ensures.value c.revoke.ensures in
+    pool-moved p i was c.revoke.new.slot p.machine p.machine p.aside _ c.self.invariant moves refl
+
+pub returns : goal.returns
+returns c =
+    let p = c.self.inside in
+    let i = c.args.position in
+    let was = c.index_mut.result.now in
+    let there = within-slots p c.args.self.now i c.self.view_is c.requires.within in
+    let moves = pool-changed p i was c.revoke.new.slot revoked keeps-revoked c.self.invariant there c.index_mut.ensures.value c.revoke.ensures in
+    view-changed p i was c.revoke.new.slot revoked moves ∙ ap (λ v. changed revoked v i) c.self.view_is

@@ -1,0 +1,33 @@
+//! A machine with its guests, by position: which frames are free, which a guest holds, and which are set aside for a running guest's
+//! own tables (overhead memory: Waldspurger, "Memory Resource Management in VMware ESX Server", OSDI 2002, section 6.2).
+//!
+//! A [`Pool`] does each move of a frame, and runs the epochs of its guests on threads. It knows no names, commands or policy: a caller
+//! says who starts, stops, gives up and gets frames.
+//!
+//! A clause sees a pool as a `PoolView` (`specs/Pool.antt`): the number of frames, the overhead of a guest, the configurations, the
+//! record of each running guest by position, and the number of free frames. No frame is in it. `specs/Changes.antt` says what each call
+//! makes of it. Frames that are free, held and set aside always add up to the machine ([`Pool::free`], and [`law_conserves`] by the
+//! definitions of the calls alone).
+//!
+//! Between any two calls a frame is out of the machine exactly where it is held once, by one guest or among those set aside, and a
+//! guest has its target. Frames' numbers are in no clause: this is the invariant of the type [`Pool`] (`specs/PoolFields.antt`,
+//! `IsPool`), which each call is proved to keep. [`Pool::close`] has no clause, since no pool is left to speak of: it ends in
+//! `vm_frames::Machine::close`, which may be called only with every frame back, and this is proved of it.
+//!
+//! That threads run at once, and that a gate is entered and left, is tested and not proved.
+#![tactic(auto)]
+
+mod aside;
+mod law;
+mod minimum;
+mod pool;
+mod round;
+mod slot;
+#[cfg(test)]
+mod tests;
+mod turn;
+
+pub use law::law_conserves;
+pub use pool::Pool;
+pub use vm_board::{Gate, Open};
+pub use vm_guest::{GuestSpec, GuestView, PageRead, Stats};

@@ -1,0 +1,202 @@
+// The epochs of all guests, on threads.
+ghost use Rattle.std.specs.Prelude.{◌≡◌, ◌+◌, ◌++◌, ◌<◌, ◌≤◌, [], ◌∷◌, All, EachIndex, IfOk, IfErr, IsTrue, ◌↔◌, OnOk, OnErr, count_by, length, map, false, true, vec_len, vec_capacity, slice_index_or};
+ghost use Rattle.vm_pool.specs.declared.slot.Slot.TheVariants.{Away};
+ghost use Rattle.vm_pool.specs.Changes.{IsServed};
+ghost use Rattle.vm_pool.specs.Pool.{running_count};
+ghost use Rattle.vm_pool.specs.Slots.{guest_in, is_away, is_prepared, slot_run, unprepared, IsSettled};
+ghost use Rattle.vm_pool.specs.Turns.{back_in, left_slot, running_in, Arrives, MayRun};
+
+use crate::slot::{Slot, fill, guest_of};
+use crate::turn::Turn;
+use std::alloc::{AllocError, Global};
+use std::mem;
+use std::thread::Threads;
+use vm_board::{Gate, Jobs, run_round};
+
+// Each guest runs its epoch, on at most so many threads. Where memory is refused, which is only where a guest runs, none does, and there
+// may be room for the epochs of some.
+pub(crate) fn run_epochs<R: Threads + Sync, G: Gate + Sync>(
+    rt: &R,
+    alloc: Global,
+    gate: &G,
+    workers: u32,
+    slots: &mut [Slot],
+) -> Result<(), AllocError>
+    requires workers { (0 < workers) × (workers ≤ 64) }
+    requires few { length slots.old ≤ 256 }
+    requires settled { All IsSettled slots.old }
+    requires served { All IsServed (map guest_in slots.old) }
+    ensures run { OnOk result (slots.new ≡ map slot_run slots.old) }
+    ensures same { OnErr result (map unprepared slots.new ≡ map unprepared slots.old) }
+    ensures memory { OnErr result (0 < running_count (map guest_in slots.old)) }
+{
+    if !has_guests(slots) {
+        return Ok(());
+    }
+    if workers == 1 {
+        return run_alone(gate, slots);
+    }
+    run_turns(rt, alloc, gate, workers, slots)
+}
+
+// Whether a guest runs in any of these slots.
+fn has_guests(slots: &[Slot]) -> bool
+    ensures { IsTrue result ↔ (0 < running_count (map guest_in slots.now)) }
+{
+    for slot in slots {
+        if guest_of(slot).is_some() {
+            return true;
+        }
+    }
+    false
+}
+
+// The same for one worker: guests run where they are, one after the other, so none is moved and no list is made.
+fn run_alone<G: Gate>(gate: &G, slots: &mut [Slot]) -> Result<(), AllocError>
+    requires few { length slots.old ≤ 256 }
+    requires served { All IsServed (map guest_in slots.old) }
+    ensures run { OnOk result (slots.new ≡ map slot_run slots.old) }
+    ensures same { OnErr result (map unprepared slots.new ≡ map unprepared slots.old) }
+{
+    prepare_all(slots)?;
+    run_in_order(gate, slots);
+    Ok(())
+}
+
+// Each guest runs its epoch, one after the other.
+fn run_in_order<G: Gate>(gate: &G, slots: &mut [Slot])
+    requires few { length slots.old ≤ 256 }
+    requires ready { All MayRun slots.old }
+    ensures { slots.new ≡ map slot_run slots.old }
+{
+    let mut number = 0;
+    for slot in slots.iter_mut() {
+        run_here(gate, &mut number, slot);
+    }
+}
+
+// The guest of a slot, if one runs there, passes the gate with the next number and runs its epoch.
+fn run_here<G: Gate>(gate: &G, number: &mut u32, slot: &mut Slot)
+    requires few { number.old < 256 }
+    requires ready { MayRun slot.old }
+    ensures run { slot.new ≡ slot_run slot.old }
+    ensures number { number.new ≤ number.old + 1 }
+{
+    if let Slot::Running(guest) = slot {
+        gate.enter(*number);
+        guest.run_epoch();
+        gate.leave(*number);
+        *number += 1;
+    }
+}
+
+// The same on threads, which asks for memory even where no guest runs.
+fn run_turns<R: Threads + Sync, G: Gate + Sync>(
+    rt: &R,
+    alloc: Global,
+    gate: &G,
+    workers: u32,
+    slots: &mut [Slot],
+) -> Result<(), AllocError>
+    requires workers { (0 < workers) × (workers ≤ 64) }
+    requires few { length slots.old ≤ 256 }
+    requires settled { All IsSettled slots.old }
+    requires served { All IsServed (map guest_in slots.old) }
+    ensures run { OnOk result (slots.new ≡ map slot_run slots.old) }
+    ensures same { OnErr result (map unprepared slots.new ≡ map unprepared slots.old) }
+{
+    prepare_all(slots)?;
+    let turns = Vec::with_capacity(alloc, slots.len())?;
+    let turns = send_out(slots, turns);
+    match run_round(rt, alloc, gate, workers, Jobs::from(turns)) {
+        Ok(done) => {
+            bring_back(slots, done.into_vec());
+            Ok(())
+        }
+        Err(refused) => {
+            bring_back(slots, refused.jobs.into_vec());
+            Err(AllocError)
+        }
+    }
+}
+
+// Makes room for the epoch of a slot's guest. Where memory is refused, nothing changes.
+fn prepare(slot: &mut Slot) -> Result<(), AllocError>
+    ensures prepared { OnOk result (is_prepared slot.new ≡ true) }
+    ensures same { unprepared slot.new ≡ unprepared slot.old }
+{
+    match slot {
+        Slot::Running(guest) => guest.prepare(),
+        Slot::Stopped(_) | Slot::Away => Ok(()),
+    }
+}
+
+// Makes room for the epoch of each guest. Where memory is refused, there is room for some of them.
+fn prepare_all(slots: &mut [Slot]) -> Result<(), AllocError>
+    ensures prepared { OnOk result (EachIndex slots.new (λ i. is_prepared (slice_index_or slots.new i Away) ≡ true)) }
+    ensures same { map unprepared slots.new ≡ map unprepared slots.old }
+{
+    for slot in slots.iter_mut() {
+        prepare(slot)?;
+    }
+    Ok(())
+}
+
+// The guest of a slot leaves it, if one runs there, and joins the turns, which have room for it.
+fn leave(slot: &mut Slot, turns: &mut Vec<Turn>)
+    requires { vec_len turns.old < vec_capacity turns.old }
+    ensures slot { slot.new ≡ left_slot slot.old }
+    ensures turns { turns.new.items ≡ turns.old.items ++ running_in (slot.old ∷ []) }
+    ensures len { vec_len turns.new ≤ vec_len turns.old + 1 }
+    ensures room { vec_capacity turns.new ≡ vec_capacity turns.old }
+{
+    match mem::replace(slot, Slot::Away) {
+        Slot::Running(guest) => turns.push_reserved(Turn { guest }),
+        Slot::Stopped(spec) => fill(slot, Slot::Stopped(spec)),
+        Slot::Away => {}
+    }
+}
+
+// Each guest that runs leaves its slot. They come in order, in the room that is there for them.
+fn send_out(slots: &mut [Slot], turns: Vec<Turn>) -> Vec<Turn>
+    requires none { turns.items ≡ [] }
+    requires room { length slots.old ≤ vec_capacity turns }
+    ensures slots { slots.new ≡ map left_slot slots.old }
+    ensures turns { result.items ≡ running_in slots.old }
+{
+    let mut turns = turns;
+    for slot in slots.iter_mut() {
+        leave(slot, &mut turns);
+    }
+    turns
+}
+
+// The last of the turns comes back to a slot whose guest is away.
+fn arrive(slot: &mut Slot, turns: &mut Vec<Turn>)
+    requires { is_away slot.old ≡ true → 0 < vec_len turns.old }
+    ensures there { is_away slot.old ≡ false → (slot.new ≡ slot.old) × (turns.new.items ≡ turns.old.items) }
+    ensures away { is_away slot.old ≡ true → Arrives slot.new turns.old.items turns.new.items }
+{
+    if let Slot::Away = slot {
+        match turns.pop() {
+            Some(turn) => {
+                let Turn { guest } = turn;
+                fill(slot, Slot::Running(guest));
+            }
+            None => unreachable!(),
+        }
+    }
+}
+
+// Guests come back to the slots that they left, in order.
+fn bring_back(slots: &mut [Slot], turns: Vec<Turn>)
+    requires all { vec_len turns ≡ count_by is_away slots.old }
+    ensures { slots.new ≡ back_in slots.old turns.items }
+{
+    let mut left = turns;
+    left.reverse();
+    for slot in slots.iter_mut() {
+        arrive(slot, &mut left);
+    }
+    left.destroy_empty();
+}

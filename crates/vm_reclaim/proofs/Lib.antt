@@ -1,0 +1,10 @@
+pub mod HeldLemmas
+pub mod FairLemmas
+pub mod DropLemmas
+pub mod CanLemmas
+pub mod RowLemmas
+pub mod TakeLemmas
+pub mod RoomLemmas
+pub mod PlanningLemmas
+pub mod CarryLemmas
+pub mod EnoughLemmas

@@ -1,0 +1,23 @@
+use Rattle.std.proofs.Common.{◌+◌, ◌++◌, ◌∙◌, ℕ, List, ap, arith, drop}
+use Rattle.std.proofs.lemmas.List.{length-map}
+use Rattle.vm_plan.specs.PlanRow.{row_of, rows_of}
+use Rattle.vm_reclaim.specs.Planning.{waiting_from}
+use Rattle.vm_reclaim.specs.Reclaim.{waits_in}
+use Rattle.vm_reclaim.proofs.PlanningLemmas.{here-read, step-waiting}
+use Rattle.vm_reclaim.proofs.boundary.blocked_of.Goals as goal
+
+pub loop-position-preserved : goal.loop-position-preserved
+loop-position-preserved c =
+    let i = c.loop-position.position in
+    let rows = rows_of c.args.rows.now in
+    let row = c.index-rows-position.result in
+    let wait = waits_in c.args.state in
+    let ends = c.loop-position.invariant.ends in
+    let before = c.loop-position-test.true in
+    let wide = length-map c.args.rows.now row_of in
+    record {
+      ends = ends;
+      done = ap (λ (l : List ℕ). l ++ waiting_from (i + 1) wait (drop (i + 1) rows)) c.in_ok-push_blocked.ensures
+          ∙ step-waiting wait c.loop-position.blocked.items rows i c.waits.result (row_of row) (waiting_from 0 wait rows) (omega (arith, ends, before, wide))
+          (here-read c.args.rows.now i row (omega (arith, ends, before)) c.index-rows-position.is) c.waits.ensures c.loop-position.invariant.done;
+    }

@@ -1,0 +1,86 @@
+use Rattle.std.proofs.Common.{◌≡◌, ◌∙◌, ◌+◌, List, ℕ, ap, arith, refl, subst, sym}
+use Rattle.std.proofs.lemmas.List.{take_at}
+use Rattle.vm_plan.specs.declared.row.PlanRow.{PlanRow}
+use Rattle.vm_plan.specs.Grants.{Pool, grant_list, IsGrantList}
+use Rattle.vm_plan.specs.PlanRow.{pool_of, rows_of as plan_rows}
+use Rattle.vm_plan.proofs.Places.{grants_apply}
+use Rattle.vm_pool.specs.Guests.{sum_of}
+use Rattle.vm_sound.specs.Moves.{CanGrant, CanRevoke}
+use Rattle.vm_reclaim.specs.declared.told.BoundaryPlan.{BoundaryPlan}
+use Rattle.vm_reclaim.specs.Boundary.{carried_out, pool_reclaimed, CanCarryOut}
+use Rattle.vm_reclaim.specs.Numbers.{policy_in}
+use Rattle.vm_reclaim.specs.Planning.{row_counts, waiting_from}
+use Rattle.vm_reclaim.specs.Reclaim.{counts_of, paged_from, pool_revoked, revocations_in, waits_in}
+use Rattle.vm_reclaim.specs.Rows.{plan_pool_of, rows_of}
+use Rattle.vm_reclaim.proofs.CanLemmas.{can_revoke}
+use Rattle.vm_reclaim.proofs.CarryLemmas.{can-settle, settled-is}
+use Rattle.vm_reclaim.proofs.PlanningLemmas.{blocked-are, counts-are, given-within, held-fallen, pool-planned}
+use Rattle.vm_reclaim.proofs.RowLemmas.{can_grant}
+use Rattle.vm_reclaim.proofs.boundary.plan_boundary.Goals as goal
+
+pub free_after-requires : goal.free_after-requires
+free_after-requires c =
+    let pool = c.args.pool.now in
+    let state = c.args.state in
+    let policy = policy_in c.args.numbers.now in
+    let fallen = pool_revoked policy state pool in
+    let whole = take_at c.plan_falls.new.rows _ c.in_ok-rows.rows.len (omega arith) in
+    let rows : plan_rows c.deref_mut-2.result.now ≡ rows_of fallen.guests = ap plan_rows (c.deref_mut-2.ensures.value ∙ whole) ∙ c.in_ok-revoked.ensures.rows in
+    let counts : c.deref-2.result.now ≡ counts_of state policy.page_rate fallen.guests =
+    c.deref-2.ensures.value ∙ (c.in_ok-counts.ensures.counts ∙ (ap (row_counts state policy.page_rate) rows ∙ counts-are state policy.page_rate fallen.guests)) in
+    let sum = ap sum_of counts in
+    let given = given-within state policy.page_rate fallen.guests in
+    let held = held-fallen pool (revocations_in policy state pool) in
+    omega (arith, sum, given, held)
+
+pub returns-clause-plan : goal.returns-clause-plan
+returns-clause-plan c =
+    let pool = c.args.pool.now in
+    let state = c.args.state in
+    let policy = policy_in c.args.numbers.now in
+    let fallen = (pool_revoked policy state pool).guests in
+    let first = take_at c.plan_falls.new.rows _ c.in_ok-rows.rows.len (omega arith) in
+    let rows = ap plan_rows (c.deref_mut-2.ensures.value ∙ first) ∙ c.in_ok-revoked.ensures.rows in
+    let free = c.free_after.ensures ∙ ap (λ (counts : List ℕ). pool.free + sum_of counts) c.deref-2.ensures.value in
+    let planned = pool-planned policy state pool c.free_after.result c.in_ok-counts.counts.items (plan_rows c.deref_mut-2.result.now) (plan_rows c.page_rows.new.rows) rows
+    c.in_ok-counts.ensures.counts c.in_ok-counts.ensures.rows free in
+    let counts = c.in_ok-counts.ensures.counts ∙ (ap (row_counts state policy.page_rate) rows ∙ counts-are state policy.page_rate fallen) in
+    let paged = c.in_ok-paged.ensures.list ∙ ap (paged_from 0) (c.deref.ensures.value ∙ counts) in
+    let granted = c.in_ok-granted.ensures.exact
+    ∙ (ap (λ (rows : List PlanRow). grant_list state policy.thresholds policy.tax (pool_of c.free_after.result rows)) (c.deref-3.ensures.value ∙ take_at c.page_rows.new.rows _ c.in_ok-rows.rows.len (omega arith))
+    ∙ ap (grant_list state policy.thresholds policy.tax) planned) in
+    let blocked = c.in_ok-blocked.ensures.list
+    ∙ (ap (λ (rows : List PlanRow). waiting_from 0 (waits_in state) (plan_rows rows)) (c.deref-4.ensures.value ∙ take_at c.page_rows.new.rows _ c.in_ok-rows.rows.len (omega arith))
+    ∙ (ap (λ (pool : Pool). waiting_from 0 (waits_in state) pool.rows) planned ∙ blocked-are policy state (pool_reclaimed policy state pool))) in
+    λ i. record { revoked = c.in_ok-revoked.ensures.plan i; paged = paged i; granted = granted i; blocked = blocked i }
+
+pub returns-clause-granted_fairly : goal.returns-clause-granted_fairly
+returns-clause-granted_fairly c =
+    let pool = c.args.pool.now in
+    let state = c.args.state in
+    let policy = policy_in c.args.numbers.now in
+    let first = take_at c.plan_falls.new.rows _ c.in_ok-rows.rows.len (omega arith) in
+    let rows = ap plan_rows (c.deref_mut-2.ensures.value ∙ first) ∙ c.in_ok-revoked.ensures.rows in
+    let free = c.free_after.ensures ∙ ap (λ (counts : List ℕ). pool.free + sum_of counts) c.deref-2.ensures.value in
+    let planned = pool-planned policy state pool c.free_after.result c.in_ok-counts.counts.items (plan_rows c.deref_mut-2.result.now) (plan_rows c.page_rows.new.rows) rows
+    c.in_ok-counts.ensures.counts c.in_ok-counts.ensures.rows free in
+    subst (λ (p : Pool). IsGrantList state policy.thresholds policy.tax p c.in_ok-granted.granted)
+    (ap (λ (rows : List PlanRow). pool_of c.free_after.result rows) (c.deref-3.ensures.value ∙ take_at c.page_rows.new.rows _ c.in_ok-rows.rows.len (omega arith)) ∙ planned) c.in_ok-granted.ensures.list
+
+pub returns-clause-can : goal.returns-clause-can
+returns-clause-can c =
+    let pool = c.args.pool.now in
+    let state = c.args.state in
+    let policy = policy_in c.args.numbers.now in
+    let reclaimed = pool_reclaimed policy state pool in
+    let whole = returns-clause-plan c in
+    let falls = subst (λ (moves : List ℕ). CanRevoke pool moves) c.in_ok-revoked.ensures.plan (can_revoke policy.tax pool c.in_ok-revoked.revoked c.in_ok-revoked.ensures.fair) in
+    let list : IsGrantList state policy.thresholds policy.tax (plan_pool_of reclaimed) c.in_ok-granted.granted = returns-clause-granted_fairly c in
+    let applies = grants_apply state policy.thresholds policy.tax (plan_pool_of reclaimed) c.in_ok-granted.granted list.each_next in
+    let rises = can_grant (plan_pool_of reclaimed) reclaimed c.in_ok-granted.granted refl applies in
+    subst (λ (plan : BoundaryPlan). CanCarryOut pool plan) (sym whole)
+    (can-settle policy state pool falls (subst (λ (moves : List ℕ). CanGrant reclaimed moves) (ap (λ (plan : BoundaryPlan). plan.granted) whole) rises))
+
+pub returns-clause-done : goal.returns-clause-done
+returns-clause-done c =
+    ap (λ (plan : BoundaryPlan). carried_out plan c.args.pool.now) (returns-clause-plan c) ∙ settled-is (policy_in c.args.numbers.now) c.args.state c.args.pool.now

@@ -1,0 +1,10 @@
+pub mod Policy
+pub mod Numbers
+pub mod Rows
+pub mod Reclaim
+pub mod Room
+pub mod Making
+pub mod Planning
+pub mod Boundary
+pub mod Enough
+pub mod Fairness

@@ -1,0 +1,31 @@
+-- A boundary is planned by rows: for private contracts alone.
+use Rattle.std.specs.Prelude.{ℕ, ◌+◌, ◌-◌, ◌&&◌, ⊤, Bool, List, [], ◌∷◌, map, nat_lt, if◌then◌else◌}
+use Rattle.vm_plan.specs.declared.state.State.{State}
+use Rattle.vm_plan.specs.Paging.{page_count_of}
+use Rattle.vm_plan.specs.Revocation.{IsRevocable, revoked_row}
+use Rattle.vm_plan.specs.Row.{Row, change_at}
+
+-- there is a guest above its minimum for each of these, one after the other
+abbrev pub CanLower : List Row → List ℕ → Type 0
+CanLower rows [] = ⊤
+CanLower rows (position ∷ moves) = IsRevocable rows position × CanLower (change_at revoked_row rows position) moves
+
+-- how many frames each guest gives up by paging
+abbrev pub row_counts : State → ℕ → List Row → List ℕ
+row_counts state page_rate rows = map (λ row. page_count_of state row page_rate) rows
+
+-- a guest that gave them up
+abbrev pub paged_row : State → ℕ → Row → Row
+paged_row state page_rate row = record row { held = row.held - page_count_of state row page_rate }
+
+-- where guests wait, one waits that holds more than its target
+abbrev pub waits_row : Bool → Row → Bool
+waits_row wait row = wait && nat_lt row.target row.held
+
+-- the guests that wait, from a position on
+abbrev pub waiting_from : ℕ → Bool → List Row → List ℕ
+waiting_from position wait [] = []
+waiting_from position wait (row ∷ rows) =
+    if waits_row wait row
+    then position ∷ waiting_from (position + 1) wait rows
+    else waiting_from (position + 1) wait rows

@@ -1,0 +1,226 @@
+//! What a boundary takes from its guests and gives them, planned from plain rows before anything is moved.
+ghost use Rattle.std.specs.Prelude.{◌≡◌, ◌+◌, ◌<◌, ◌≤◌, ◌++◌, All, IfOk, OnOk, length, map};
+ghost use Rattle.vm_guest.specs.Boundary.{revoked};
+ghost use Rattle.vm_plan.specs.Grants.{IsGrantList};
+ghost use Rattle.vm_plan.specs.Paging.{page_count_of};
+ghost use Rattle.vm_plan.specs.PlanRow.{row_of, rows_of as plan_rows};
+ghost use Rattle.vm_plan.specs.Revocation.{revoked_row, rows_after, IsRevocable};
+ghost use Rattle.vm_plan.specs.Row.{change_at};
+ghost use Rattle.vm_pool.specs.Changes.{changed};
+ghost use Rattle.vm_pool.specs.Guests.{sum_of};
+ghost use Rattle.vm_pool.specs.Pool.{total_held, EachGuest};
+ghost use Rattle.vm_reclaim.specs.Boundary.{carried_out, plan_of, pool_reclaimed, pool_settled, CanCarryOut};
+ghost use Rattle.vm_reclaim.specs.Fairness.{IsAtMinimum, TakesFromCheapest};
+ghost use Rattle.vm_reclaim.specs.Numbers.{policy_in};
+ghost use Rattle.vm_reclaim.specs.Planning.{paged_row, row_counts, waiting_from, waits_row, CanLower};
+ghost use Rattle.vm_reclaim.specs.Reclaim.{if_blocked, paged_from, pool_revoked, revocations_in, waits_in, wanted_in};
+ghost use Rattle.vm_reclaim.specs.Rows.{plan_pool_of, rows_of};
+ghost use Rattle.vm_sound.specs.Moves.{CanRevoke};
+ghost use Rattle.vm_tax.specs.Ratio.{hundredths};
+
+use crate::policy::Numbers;
+use crate::rows::rows_of;
+use crate::told::{Blocked, BoundaryPlan, Paged, Paging};
+use std::alloc::{AllocError, Global};
+use vm_plan::{Plan, PlanRow, State, grant, is_blocked, page_count, revoke};
+use vm_pool::Pool;
+
+// The target of the row at a position falls by one.
+fn lower_target(rows: &mut [PlanRow], position: usize)
+    requires above { IsRevocable (plan_rows rows.old) position }
+    requires held { All (λ row. row.target ≤ row.held) rows.old }
+    ensures row { plan_rows rows.new ≡ change_at revoked_row (plan_rows rows.old) position }
+    ensures held { All (λ row. row.target ≤ row.held) rows.new }
+{
+    let row = &mut rows[position];
+    row.target -= 1;
+}
+
+// Each of these targets falls by one.
+fn lower_targets(rows: &mut [PlanRow], plan: &Plan)
+    requires can { CanLower (plan_rows rows.old) plan.now }
+    requires held { All (λ row. row.target ≤ row.held) rows.old }
+    ensures rows { plan_rows rows.new ≡ rows_after (plan_rows rows.old) plan.now }
+    ensures held { All (λ row. row.target ≤ row.held) rows.new }
+{
+    for position in plan.moves() {
+        lower_target(rows, position as usize);
+    }
+}
+
+// The targets that fall. The rows are those after it.
+fn plan_falls(
+    alloc: Global,
+    numbers: &Numbers,
+    pool: &Pool,
+    state: State,
+    rows: &mut [PlanRow],
+) -> Result<Plan, AllocError>
+    requires few { length pool.now.guests ≤ 256 }
+    requires rows { plan_rows rows.old ≡ rows_of pool.now.guests }
+    requires held { All (λ row. row.target ≤ row.held) rows.old }
+    ensures plan { IfOk result (λ plan. plan ≡ revocations_in (policy_in numbers.now) state pool.now) }
+    ensures fair { IfOk result (TakesFromCheapest (hundredths numbers.now.tax) (changed revoked) pool.now) }
+    ensures enough { let policy = policy_in numbers.now in
+        IfOk result (λ plan. length plan < wanted_in policy state pool.now → EachGuest IsAtMinimum (pool_revoked policy state pool.now)) }
+    ensures rows { OnOk result (plan_rows rows.new ≡ rows_of (pool_revoked (policy_in numbers.now) state pool.now).guests) }
+    ensures held { OnOk result (All (λ row. row.target ≤ row.held) rows.new) }
+{
+    let plan = revoke(
+        alloc,
+        state,
+        pool.free(),
+        &numbers.thresholds,
+        numbers.tax,
+        rows,
+    )?;
+    lower_targets(rows, &plan);
+    Ok(plan)
+}
+
+// A row gives up what it does by paging, and tells how many frames.
+fn page_row(state: State, page_rate: u32, row: &mut PlanRow) -> u32
+    requires { row.old.target ≤ row.old.held }
+    ensures count { result ≡ page_count_of state (row_of row.old) page_rate }
+    ensures row { row_of row.new ≡ paged_row state page_rate (row_of row.old) }
+    ensures held { row.new.target ≤ row.new.held }
+{
+    let count = page_count(state, row, page_rate);
+    row.held -= count;
+    count
+}
+
+// Each row gives up what it does by paging, and tells how many frames.
+fn page_rows(
+    alloc: Global,
+    state: State,
+    page_rate: u32,
+    rows: &mut [PlanRow],
+) -> Result<Vec<u32>, AllocError>
+    requires { All (λ row. row.target ≤ row.held) rows.old }
+    ensures counts { IfOk result (λ counts. counts.items ≡ row_counts state page_rate (plan_rows rows.old)) }
+    ensures rows { OnOk result (plan_rows rows.new ≡ map (paged_row state page_rate) (plan_rows rows.old)) }
+    ensures held { OnOk result (All (λ row. row.target ≤ row.held) rows.new) }
+{
+    let mut counts = Vec::with_capacity(alloc, rows.len())?;
+    for row in rows.iter_mut() {
+        counts.push(page_row(state, page_rate, row))?;
+    }
+    Ok(counts)
+}
+
+// The counts that are not 0, with their positions.
+fn paging_of(alloc: Global, counts: &[u32]) -> Result<Paging, AllocError>
+    requires few { length counts.now ≤ 256 }
+    ensures list { IfOk result (λ paging. paging ≡ paged_from 0 counts.now) }
+{
+    let mut paged = Vec::new(alloc);
+    for (position, count) in counts.iter().enumerate() {
+        if *count > 0 {
+            paged.push(Paged {
+                position: position as u32,
+                count: *count,
+            })?;
+        }
+    }
+    Ok(Paging::new(paged))
+}
+
+// How many frames are free once guests gave up so many: all but those that are held or set aside then.
+fn free_after(pool: &Pool, counts: &[u32]) -> u32
+    requires { sum_of counts.now ≤ total_held pool.now.guests }
+    ensures { result ≡ pool.now.free + sum_of counts.now }
+{
+    let mut used = pool.frames() - pool.free();
+    for count in counts {
+        used -= *count;
+    }
+    pool.frames() - used
+}
+
+// Whether the guest of a row has to wait.
+fn waits(state: State, row: &PlanRow) -> bool
+    ensures { result ≡ waits_row (waits_in state) (row_of row.now) }
+{
+    is_blocked(state, row)
+}
+
+// Adds the position of a guest that is blocked.
+fn push_blocked(blocked: &mut Vec<u32>, position: u32, is: bool) -> Result<(), AllocError>
+    ensures { OnOk result (blocked.new.items ≡ blocked.old.items ++ if_blocked is position) }
+{
+    if is {
+        blocked.push(position)?;
+    }
+    Ok(())
+}
+
+// The positions of the guests that have to wait, in order.
+fn blocked_of(alloc: Global, state: State, rows: &[PlanRow]) -> Result<Blocked, AllocError>
+    requires few { length rows.now ≤ 256 }
+    ensures list { IfOk result (λ blocked. blocked ≡ waiting_from 0 (waits_in state) (plan_rows rows.now)) }
+{
+    let mut blocked = Vec::new(alloc);
+    for (position, row) in rows.iter().enumerate() {
+        push_blocked(&mut blocked, position as u32, waits(state, row))?;
+    }
+    Ok(Blocked::new(blocked))
+}
+
+/// What a boundary is to take from its guests and give them (Waldspurger, OSDI 2002, sections 5.1, 5.2 and 6.3): targets fall, then
+/// guests give up frames, then targets rise, and at last some guests wait. All of it is found before the first move, each list from
+/// the frames as the lists before it will leave them.
+///
+/// Targets fall by as many pages as frames are missing to the goal, beside those free and those that guests hold above their targets
+/// (min-funding revocation); in High by none. A guest gives up at most the page rate, and no more than it holds above its target; in
+/// Soft it is also no more than it uses above its target; in High none. Each page that is granted goes to the guest whose adjusted
+/// ratio is greatest of those that want one: in High while more frames are free than the threshold of Soft, in Soft and Hard while
+/// more are free than the next lower threshold and the guest outbids the others, in Low never. In Low guests wait that hold more than
+/// their targets.
+///
+/// The cost is a step for each guest, and a logarithm of their number for each page. The only error is a want of memory.
+pub fn plan_boundary(
+    alloc: Global,
+    numbers: &Numbers,
+    pool: &Pool,
+    state: State,
+) -> Result<BoundaryPlan, AllocError>
+    requires { length pool.now.guests ≤ 256 }
+    ensures plan { IfOk result (λ plan. plan ≡ plan_of (policy_in numbers.now) state pool.now) }
+
+    // Each move can be done in its turn, and together they do what the state asks for.
+    ensures can { IfOk result (CanCarryOut pool.now) }
+    ensures done { IfOk result (λ plan. carried_out plan pool.now ≡ pool_settled (policy_in numbers.now) state pool.now) }
+
+    // Each page that is taken is that of a guest above its minimum whose adjusted ratio is least then.
+    ensures taken_fairly { IfOk result
+        (λ plan. TakesFromCheapest (hundredths numbers.now.tax) (changed revoked) pool.now plan.revoked) }
+
+    // There are fewer than are wanted only where no guest is left above its minimum.
+    ensures enough { let policy = policy_in numbers.now in
+        IfOk result (λ plan. length plan.revoked < wanted_in policy state pool.now → EachGuest IsAtMinimum (pool_revoked policy state pool.now)) }
+
+    // Each page that is granted goes to the guest that offers most while the conditions hold, and the list ends only where they don't.
+    ensures granted_fairly { let guests = plan_pool_of (pool_reclaimed (policy_in numbers.now) state pool.now) in
+        IfOk result (λ plan. IsGrantList state numbers.now.thresholds (hundredths numbers.now.tax) guests plan.granted) }
+{
+    let mut rows = rows_of(alloc, pool)?;
+    let revoked = plan_falls(alloc, numbers, pool, state, &mut rows)?;
+    let counts = page_rows(alloc, state, numbers.page_rate, &mut rows)?;
+    let paged = paging_of(alloc, &counts)?;
+    let granted = grant(
+        alloc,
+        state,
+        free_after(pool, &counts),
+        &numbers.thresholds,
+        numbers.tax,
+        &rows,
+    )?;
+    let blocked = blocked_of(alloc, state, &rows)?;
+    Ok(BoundaryPlan {
+        revoked,
+        paged,
+        granted,
+        blocked,
+    })
+}

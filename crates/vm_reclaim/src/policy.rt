@@ -1,0 +1,16 @@
+//! The numbers by which a host decides.
+ghost use Rattle.std.specs.Prelude.{◌≤◌};
+
+use vm_plan::Thresholds;
+
+/// The numbers by which a host decides what it takes and gives.
+#[derive(Clone, Copy, Debug)]
+pub struct Numbers {
+    /// The tax on idle memory, in hundredths of a percent, at most 9999 (Waldspurger, OSDI 2002, section 5.2).
+    pub tax: u32,
+    /// How many frames are meant to be free in each state (section 6.3).
+    pub thresholds: Thresholds,
+    /// The most frames that a guest gives up by paging in a boundary.
+    pub page_rate: u32,
+    ghost part_taxed: { tax ≤ 9999 },
+}

@@ -1,0 +1,75 @@
+-- The course of a run: boundaries and epochs, one after the other. What a boundary does is the run's.
+use Rattle.std.specs.Prelude.{ℕ, zero, suc, List, [], map}
+use Rattle.vm_domains.specs.Domains.{Domain}
+use Rattle.vm_domains.specs.Machine.{MachineConfig}
+use Rattle.vm_host.specs.Boundary.{bounded_by, opened}
+use Rattle.vm_host.specs.Epoch.{after_epoch}
+use Rattle.vm_host.specs.History.{history_after_epoch, history_after_lines, history_after_service}
+use Rattle.vm_host.specs.World.{World, first_world, with_pool}
+use Rattle.vm_pool.specs.Guests.{Guests}
+use Rattle.vm_reclaim.specs.Policy.{Policy, policy_of}
+use Rattle.vm_sound.specs.Written.{History}
+
+-- ---- the guests of a host
+
+abbrev pub guests_of : World → Guests
+guests_of w = w.pool.guests
+
+abbrev pub with_guests : World → Guests → World
+with_guests w guests = with_pool w (record w.pool { guests = guests })
+
+-- ---- a run
+
+-- what a run is made of
+pub record Run : Type 0 where
+  -- the host before the first boundary
+  pub first : World
+  -- what the boundary before epoch k makes of a host
+  pub bound : ℕ → World → World
+  -- what happened to each guest, once the boundary before epoch k is done: of the host that it finds, and of what happened before
+  pub told : ℕ → World → History → History
+  -- how many boundaries it has
+  pub epochs : ℕ
+
+-- the host after so many epochs, each of which begins with a boundary
+abbrev pub host_after : Run → ℕ → World
+host_after r zero = r.first
+host_after r (suc k) = after_epoch (r.bound k (host_after r k))
+
+-- the host that the last of so many boundaries leaves
+abbrev pub host_left : Run → ℕ → World
+host_left r zero = r.first
+host_left r (suc k) = r.bound k (host_after r k)
+
+-- nothing happened to any guest
+abbrev pub no_history : Guests → History
+no_history guests = map (λ _. []) guests
+
+-- what happened to each guest in so many epochs
+abbrev pub history_after : Run → ℕ → History
+history_after r zero = no_history (guests_of r.first)
+history_after r (suc k) = history_after_epoch (guests_of (r.bound k (host_after r k))) (r.told k (host_after r k) (history_after r k))
+
+-- what happened to each guest, once the last of so many boundaries is done
+abbrev pub history_left : Run → ℕ → History
+history_left r zero = no_history (guests_of r.first)
+history_left r (suc k) = r.told k (host_after r k) (history_after r k)
+
+-- ---- the runs of a host
+
+-- what happened to each guest, once a boundary with these lines is done: its device was served, and the lines were obeyed
+abbrev pub told_by : Policy → World → List (List ℕ) → History → History
+told_by policy w lines h = history_after_lines policy (opened w) (history_after_service (guests_of w) h) lines
+
+-- the run of a machine and its domains by a policy, with these lines at the boundary before epoch k
+abbrev pub run_by : Policy → MachineConfig → List Domain → (ℕ → List (List ℕ)) → ℕ → Run
+run_by policy machine domains lines epochs = record {
+  first = first_world machine domains;
+  bound = λ k w. bounded_by policy w (lines k);
+  told = λ k w h. told_by policy w (lines k) h;
+  epochs = epochs;
+}
+
+-- by that of its machine
+abbrev pub run_of : MachineConfig → List Domain → (ℕ → List (List ℕ)) → ℕ → Run
+run_of machine domains lines epochs = run_by (policy_of machine) machine domains lines epochs

@@ -1,0 +1,3 @@
+pub mod Course
+pub mod Served
+pub mod Rounds

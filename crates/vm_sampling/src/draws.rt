@@ -1,0 +1,165 @@
+ghost use Rattle.std.specs.Prelude.{◌≡◌, ◌<◌, ◌≤◌, [], None, All, IfOk, OnErr, length};
+ghost use Rattle.vm_sampling.specs.Counts.{AreCounts, draws_of};
+ghost use Rattle.vm_sampling.specs.Drawn.{pages_drawn};
+ghost use Rattle.vm_sampling.specs.Words.{draws, words_after};
+
+use crate::Words;
+use std::alloc::{AllocError, Global};
+use std::marker::Model;
+
+// The pages that are drawn for a period, with replacement.
+//
+// A new period only sets the words of its draws aside. The draws are made when a page is first asked for, so a period in which no
+// page is touched costs none.
+#[derive(Debug, Drop)]
+pub(crate) struct Draws {
+    drawn: Vec<u32>,
+    // How many of the draws that were made gave each page.
+    draws_of: Vec<u16>,
+    // The words of the draws that are still to be made, in place of those that were.
+    due: Option<Words>,
+}
+
+impl Model for Draws {
+    ghost use Rattle.vm_sampling.specs.Drawn.{Drawn};
+
+    ghost Value = { Drawn };
+
+    ghost use Rattle.vm_sampling.specs.DrawsFields.{drawn_of, IsDraws};
+
+    ghost view = { drawn_of };
+
+    ghost invariant = { IsDraws };
+}
+
+impl Draws {
+    // Draws `n` of the pages of a guest of `size` pages. An `Err` means that memory was refused; no word is used then.
+    pub(crate) fn new(
+        alloc: Global,
+        n: u32,
+        size: u32,
+        words: &mut Words,
+    ) -> Result<Self, AllocError>
+        requires n_in_range { n ≤ 1000 }
+        requires size_in_range { (1 ≤ size) × (size ≤ 262144) }
+        ensures ok { IfOk result (λ d. d ≡ record { pages = draws n size words.old; size = size }) }
+        ensures words { IfOk result (λ _. words.new ≡ words_after n words.old) }
+        ensures err { OnErr result (words.new ≡ words.old) }
+    {
+        let mut drawn = vec![in alloc; 0u32; n as usize]?;
+        let mut draws_of = vec![in alloc; 0u16; size as usize]?;
+        redraw(&mut drawn, &mut draws_of, words);
+        Ok(Draws {
+            drawn,
+            draws_of,
+            due: None,
+        })
+    }
+
+    // How many pages are drawn.
+    pub(crate) fn len(&self) -> usize
+        ensures { result ≡ length self.now.pages }
+    {
+        self.drawn.len()
+    }
+
+    // Draws as many pages for the next period.
+    pub(crate) fn renew(&mut self, words: &mut Words)
+        ensures pages { self.new ≡ record { pages = draws (length self.old.pages) self.old.size words.old; size = self.old.size } }
+        ensures words { words.new ≡ words_after (length self.old.pages) words.old }
+    {
+        self.due = Some(words.set_aside(self.drawn.len() as u64));
+    }
+
+    // How many of the draws gave the page.
+    pub(crate) fn count_of(&mut self, page: u32) -> u32
+        requires { page < self.old.size }
+        ensures value { result ≡ draws_of self.old.pages page }
+        ensures same { self.new ≡ self.old }
+    {
+        let due = self.due.take();
+        make_draws(due, &mut self.drawn, &mut self.draws_of);
+        u32::from(self.draws_of[page as usize])
+    }
+}
+
+// Makes the draws that are due, if there are any.
+fn make_draws(due: Option<Words>, drawn: &mut [u32], draws_of: &mut [u16])
+    requires few_draws { length drawn.old ≤ 1000 }
+    requires some_pages { 0 < length draws_of.old }
+    requires few_pages { length draws_of.old ≤ 262144 }
+    requires pages { All (λ page. page < length draws_of.old) drawn.old }
+    requires counted { AreCounts drawn.old draws_of.old }
+    ensures drawn { drawn.new ≡ pages_drawn due drawn.old (length draws_of.old) }
+    ensures pages { All (λ page. page < length draws_of.old) drawn.new }
+    ensures counted { AreCounts drawn.new draws_of.new }
+{
+    if let Some(mut words) = due {
+        clear_counts(drawn, draws_of);
+        redraw(drawn, draws_of, &mut words);
+    }
+}
+
+// Takes the draws out of the counts, one by one.
+fn clear_counts(drawn: &[u32], draws_of: &mut [u16])
+    requires pages { All (λ page. page < length draws_of.old) drawn.now }
+    requires counted { AreCounts drawn.now draws_of.old }
+    ensures { AreCounts [] draws_of.new }
+{
+    for &page in drawn {
+        draws_of[page as usize] -= 1;
+    }
+}
+
+// Draws each of the pages anew, and counts how many of the draws give each page.
+fn redraw(drawn: &mut [u32], draws_of: &mut [u16], words: &mut Words)
+    requires few_draws { length drawn.old ≤ 1000 }
+    requires some_pages { 0 < length draws_of.old }
+    requires few_pages { length draws_of.old ≤ 262144 }
+    requires cleared { AreCounts [] draws_of.old }
+    ensures drawn { drawn.new ≡ draws (length drawn.old) (length draws_of.old) words.old }
+    ensures pages { All (λ page. page < length draws_of.old) drawn.new }
+    ensures counted { AreCounts drawn.new draws_of.new }
+    ensures words { words.new ≡ words_after (length drawn.old) words.old }
+{
+    let size = draws_of.len() as u32;
+    for place in drawn.iter_mut() {
+        let page = words.pick(size);
+        *place = page;
+        draws_of[page as usize] += 1;
+    }
+}
+
+#[cfg(test)]
+mod tests {
+    use super::*;
+    use std::test::Fail;
+
+    // One of four pages for each period, by these words in turn: 2, 1, 2, 2, 2, 3.
+    #[test]
+    fn draws_that_are_due(rt: HostRuntime) -> Result<(), Fail> {
+        let mut words = Words::new(42, 54);
+        let mut draws = Draws::new(rt.alloc(), 1, 4, &mut words)?;
+        assert_eq!(rt; draws.count_of(2), 1);
+        draws.renew(&mut words);
+        assert_eq!(rt; (draws.count_of(1), draws.count_of(2)), (1, 0));
+        draws.renew(&mut words);
+        draws.renew(&mut words);
+        draws.renew(&mut words);
+        draws.renew(&mut words);
+        assert_eq!(rt; (draws.count_of(2), draws.count_of(3)), (0, 1));
+        assert_eq!(rt; draws.len(), 1);
+        Ok(())
+    }
+
+    // The draws of two words are made after the words were used by others.
+    #[test]
+    fn words_of_others(rt: HostRuntime) -> Result<(), Fail> {
+        let mut words = Words::new(42, 54);
+        let mut draws = Draws::new(rt.alloc(), 2, 4, &mut words)?;
+        draws.renew(&mut words);
+        assert_eq!(rt; words.pick(4), 2);
+        assert_eq!(rt; (draws.count_of(2), draws.count_of(1)), (2, 0));
+        Ok(())
+    }
+}

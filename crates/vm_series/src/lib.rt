@@ -1,0 +1,15 @@
+//! What is seen of a host after each epoch of a run, as rows and as comma-separated values.
+//!
+//! [`collect_series`] runs a configuration and keeps a row for each epoch; a clause reads the rows as plain data (`specs/Rows.antt`).
+//! [`csv_text`] writes them (RFC 4180), by the kit's `csv` (`specs/Csv.antt`).
+#![tactic(auto)]
+
+mod collect;
+mod csv_lines;
+mod rows;
+#[cfg(test)]
+mod tests;
+
+pub use collect::collect_series;
+pub use csv_lines::csv_text;
+pub use rows::{EpochRow, Series};

@@ -1,0 +1,60 @@
+-- What a run keeps of a host.
+use Rattle.std.proofs.Common.{◌≡◌, ℕ, zero, suc, List, Option, refl, ap, ◌∙◌, subst}
+use Rattle.vm_host.proofs.KeptLemmas.{machine-bounded, names-bounded}
+use Rattle.vm_host.specs.World.{World, first_world}
+use Rattle.vm_config.specs.declared.config.Config.{Config}
+use Rattle.std.specs.Io.KnownBytes.{Appends}
+use Rattle.vm_sim.specs.Streams.{AppendsFront}
+use Rattle.vm_reclaim.specs.Policy.{policy_of}
+use Rattle.vm_sim.specs.declared.agenda.Agenda.{Agenda}
+use Rattle.vm_sim.specs.Course.{Course, after_boundary, agenda_of, course_from, lines_for, next_world, world_after, world_in}
+use Rattle.vm_sim.specs.Report.{report_in, report_of, told_at, told_in_epoch}
+
+pub machine-in : (course : Course) (k : ℕ) → (world_in course k).machine ≡ course.first.machine
+machine-in course zero = refl
+machine-in course (suc k) = machine-bounded course.policy (world_in course k) (course.lines k) ∙ machine-in course k
+
+names-in : (course : Course) (k : ℕ) → (world_in course k).names ≡ course.first.names
+names-in course zero = refl
+names-in course (suc k) = names-bounded course.policy (world_in course k) (course.lines k) ∙ names-in course k
+
+-- ---- a host decides by the numbers of its machine, and its domains keep their names
+
+module _ (epochs : ℕ) (agenda : Agenda) (first : World) where
+  abbrev course : Course
+  course = course_from epochs agenda first
+
+  policy_kept : (k : ℕ) (w : World) → w ≡ world_in course k → policy_of w.machine ≡ policy_of first.machine
+  policy_kept k w is = ap (λ (v : World). policy_of v.machine) is ∙ ap policy_of (machine-in course k)
+
+  lines_kept : (k : ℕ) (w : World) → w ≡ world_in course k → lines_for w.names agenda k ≡ lines_for first.names agenda k
+  lines_kept k w is =
+      ap (λ (v : World). lines_for v.names agenda k) is
+      ∙ ap (λ (names : List (List ℕ)). lines_for names agenda k) (names-in course k)
+
+  -- the host after one epoch more
+  pub next_in_course : (k : ℕ) (w next : World) → w ≡ world_in course k
+      → next ≡ next_world (policy_of w.machine) (lines_for w.names agenda k) w → next ≡ world_in course (suc k)
+  unfolding after_boundary
+  next_in_course k w next is after =
+      after ∙ λ i. next_world (policy_kept k w is i) (lines_kept k w is i) (is i)
+
+  -- what is told of it
+  pub told_in_course : (k : ℕ) (w : World) → w ≡ world_in course k
+      → told_in_epoch k (policy_of w.machine) (lines_for w.names agenda k) w ≡ told_at course k
+  told_in_course k w is = λ i. told_in_epoch k (policy_kept k w is i) (lines_kept k w is i) (is i)
+
+-- ---- a new host has the course of its configuration
+
+module _ (c : Config) (w : World) (is : w ≡ first_world c.machine c.domains) where
+  pub world_of_new : (host : World) → host ≡ world_in (course_from c.epochs (agenda_of c) w) c.epochs → host ≡ world_after c c.epochs
+  world_of_new host after = after ∙ ap (λ (v : World). world_in (course_from c.epochs (agenda_of c) v) c.epochs) is
+
+  report_of_new : report_in (course_from c.epochs (agenda_of c) w) ≡ report_of c
+  report_of_new = ap (λ (v : World). report_in (course_from c.epochs (agenda_of c) v)) is
+
+  pub written_of_new : (x y : Option (List ℕ)) → Appends x y (report_in (course_from c.epochs (agenda_of c) w)) → Appends x y (report_of c)
+  written_of_new x y written = subst (λ (text : List ℕ). Appends x y text) report_of_new written
+
+  pub front_of_new : (x y : Option (List ℕ)) → AppendsFront x y (report_in (course_from c.epochs (agenda_of c) w)) → AppendsFront x y (report_of c)
+  front_of_new x y front = subst (λ (text : List ℕ). AppendsFront x y text) report_of_new front

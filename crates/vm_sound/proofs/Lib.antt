@@ -1,0 +1,9 @@
+pub mod PlaceLemmas
+pub mod BecomeLemmas
+pub mod StepLemmas
+pub mod SoundPoolLemmas
+pub mod FramesLemmas
+pub mod ServedLemmas
+pub mod TotalLemmas
+pub mod BooksLemmas
+pub mod ToldLemmas

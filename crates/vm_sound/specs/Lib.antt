@@ -1,0 +1,4 @@
+pub mod Sound
+pub mod Moves
+pub mod Books
+pub mod Written

@@ -1,0 +1,10 @@
+//! Runs the guests that a configuration on standard input names, and writes what is seen of the host after each epoch to standard
+//! output: `vmseries [--workers N]`.
+#![tactic(auto)]
+
+use std::process::ExitCode;
+use vm_series_program::vmseries;
+
+fn main(rt: HostRuntime) -> ExitCode {
+    vmseries(&rt)
+}
