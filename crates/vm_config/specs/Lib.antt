@@ -4,6 +4,7 @@ pub mod Versions
 pub mod Names
 pub mod Keys
 pub mod Places
+pub mod FaultTexts
 pub mod Trace
 pub mod Guests
 pub mod Schedule

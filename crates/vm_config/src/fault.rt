@@ -20,6 +20,10 @@ pub struct Fault {
 }
 
 impl fmt::Display for Fault {
+    ghost use Rattle.vm_config.specs.FaultTexts.{told};
+
+    ghost output = { told };
+
     fn fmt<W: fmt::Write>(&self, f: &mut fmt::Formatter<W>) -> fmt::Result {
         let place = self.place;
         match self.error {

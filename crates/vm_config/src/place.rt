@@ -115,6 +115,11 @@ pub enum Place {
 }
 
 impl fmt::Display for Place {
+    ghost use Rattle.std.specs.Prelude.{Some};
+    ghost use Rattle.vm_config.specs.FaultTexts.{text_of};
+
+    ghost output = { λ place. Some (text_of place) };
+
     fn fmt<W: fmt::Write>(&self, f: &mut fmt::Formatter<W>) -> fmt::Result {
         match *self {
             Place::Text => write!(f, "the text"),

@@ -1,4 +1,4 @@
-ghost use Rattle.std.specs.Prelude.{◌≡◌, ◌≢◌, ◌<◌, ◌≤◌, ◌↔◌, IfErr, IfOk, IsTrue, Err, OnErr, OnOk, length, slice_get};
+ghost use Rattle.std.specs.Prelude.{◌≡◌, ◌≢◌, ◌<◌, ◌≤◌, ◌↔◌, ◌⊎◌, IfErr, IfOk, IsTrue, Err, OnErr, OnOk, length, slice_get};
 ghost use Rattle.std.specs.Option.{option_map};
 ghost use Rattle.vm_domains.specs.Domains.{place_of};
 ghost use Rattle.vm_guest.specs.Good.{IsGood};
@@ -97,9 +97,9 @@ impl Host {
     /// guest that was admitted always gets its minimum, for which others give up what they hold above their targets, and then
     /// lose pages of them as above.
     ///
-    /// `Failed` comes exactly from a host that has failed, which stays as it is. `Memory` leaves a failed host: that after some of
-    /// the lines, from the first one on, each of them obeyed as a whole, and with nothing done that comes after the lines. Its
-    /// machine and its domains are as before, and its frames add up.
+    /// `Failed` comes exactly from a host that has failed, which stays as it is. `Memory` comes only where there is a domain or a
+    /// line. It leaves a failed host: that after some of the lines, from the first one on, each of them obeyed as a whole, and with
+    /// nothing done that comes after the lines. Its machine and its domains are as before, and its frames add up.
     pub fn boundary(&mut self, alloc: Global, lines: &Lines) -> Result<Boundary, HostError>
         ensures done { OnOk result (self.new ≡ bounded self.old lines.now) }
         ensures told { IfOk result (λ told. told ≡ boundary_of self.old lines.now) }
@@ -107,6 +107,7 @@ impl Host {
         ensures failed { (result ≡ Err HasFailed) ↔ (self.old.phase ≡ Failed) }
         ensures unchanged { result ≡ Err HasFailed → self.new ≡ self.old }
         ensures memory { result ≡ Err NoMemory → FailsAfterSome self.old lines.now self.new }
+        ensures wanted { result ≡ Err NoMemory → (0 < length self.old.names) ⊎ (0 < length lines.now) }
         ensures kept { result ≡ Err NoMemory → FailsFrom self.old self.new }
         ensures conserves { Conserves self.new }
 

@@ -247,6 +247,7 @@ pub(crate) fn obey_all(
     ensures answers { IfOk result (λ answers. answers.items ≡ answers_to (policy_of parts.old.spec) (world_of parts.old) (map string_bytes lines.now)) }
     ensures booked { OnOk result (books.new ≡ books_of (world_of parts.new)) }
     ensures memory { OnErr result (IsAfterSome (policy_of parts.old.spec) (world_of parts.old) (map string_bytes lines.now) (world_of parts.new)) }
+    ensures wanted { OnErr result (0 < length lines.now) }
     ensures kept { KeepsDomains (world_of parts.old) (world_of parts.new) }
 {
     let mut answers = Vec::new(alloc);

@@ -1,5 +1,5 @@
 // What a boundary does before its lines and after them.
-ghost use Rattle.std.specs.Prelude.{◌≡◌, IfOk, OnErr, OnOk, map, string_bytes};
+ghost use Rattle.std.specs.Prelude.{◌≡◌, ◌<◌, ◌⊎◌, IfOk, OnErr, OnOk, length, map, string_bytes};
 ghost use Rattle.vm_host.specs.Boundary.{boundary_of, bounded, finished, opened, told_after};
 ghost use Rattle.vm_host.specs.Books.{books_of};
 ghost use Rattle.vm_host.specs.Commands.{IsAfterSome};
@@ -33,6 +33,7 @@ fn settle(alloc: Global, parts: &mut Parts, answers: Vec<Answer>) -> Result<Boun
     ensures told { IfOk result (λ told. told ≡ told_after (policy_of parts.old.spec) (world_of parts.old) answers.items) }
     ensures kept { KeepsDomains (world_of parts.old) (world_of parts.new) }
     ensures unchanged { OnErr result (world_of parts.new ≡ world_of parts.old) }
+    ensures wanted { OnErr result (0 < length parts.old.pool.guests) }
 {
     let numbers = numbers_of(&parts.spec);
     let free = parts.pool.free();
@@ -65,6 +66,7 @@ pub(crate) fn bound(
     ensures told { IfOk result (λ told. told ≡ boundary_of (world_of parts.old) (map string_bytes lines.now)) }
     ensures booked { OnOk result (books.new ≡ books_of (world_of parts.new)) }
     ensures memory { OnErr result (IsAfterSome (policy_of parts.old.spec) (opened (world_of parts.old)) (map string_bytes lines.now) (world_of parts.new)) }
+    ensures wanted { OnErr result ((0 < length parts.old.names) ⊎ (0 < length lines.now)) }
     ensures kept { KeepsDomains (world_of parts.old) (world_of parts.new) }
 {
     open(parts);

@@ -1,10 +1,11 @@
 //! Which guests get more pages.
 ghost use Rattle.std.specs.Prelude.{◌≡◌, ◌<◌, ◌≤◌, ◌↔◌, ℕ, All, IfOk, IfErr, IfSome, IfNone, IsTrue, length, slice_get};
+ghost use Rattle.std.specs.List.{list_any};
 ghost use Rattle.vm_tax.specs.Ratio.{hundredths};
 ghost use Rattle.vm_plan.specs.Moves.{EachMove};
-ghost use Rattle.vm_plan.specs.Grants.{granted_row, frames_for, pool_after, Outbids, MayGrant, IsNextGrant, IsGrantable, IsGrantList, grant_list};
+ghost use Rattle.vm_plan.specs.Grants.{granted_row, frames_for, pool_after, CanGrow, LetsGrow, Outbids, MayGrant, IsNextGrant, IsGrantable, IsGrantList, grant_list};
 ghost use Rattle.vm_plan.specs.PlanRow.{row_of, rows_of, pool_of};
-ghost use Rattle.vm_plan.specs.Row.{change_at};
+ghost use Rattle.vm_plan.specs.Row.{change_at, wants_to_grow};
 ghost use Rattle.vm_plan.specs.Track.{IsTracked};
 ghost use Rattle.vm_plan.specs.declared.tracking.Kind.TheVariants.{Revocable, Wanting};
 
@@ -103,6 +104,32 @@ fn may_grant(
     }
 }
 
+/// Whether enough frames are free for guests to grow.
+fn lets_grow(state: State, free: u32, thresholds: &Thresholds) -> bool
+    ensures { IsTrue result ↔ LetsGrow state thresholds.now free }
+{
+    match state {
+        State::High => free > thresholds.soft,
+        State::Soft => free > thresholds.hard,
+        State::Hard => free > thresholds.low,
+        State::Low => false,
+    }
+}
+
+/// Whether some guest wants to grow, and may.
+fn some_wants_to_grow(rows: &[PlanRow]) -> bool
+    ensures { result ≡ list_any (λ row. wants_to_grow (row_of row)) rows.now }
+{
+    rows.iter().any(|row| row.wants_to_grow())
+}
+
+/// Whether there can be a next grant. It passes over the rows once, and only where enough frames are free.
+fn can_grow(state: State, free: u32, thresholds: &Thresholds, rows: &[PlanRow]) -> bool
+    ensures { IsTrue result ↔ CanGrow state thresholds.now (pool_of free rows.now) }
+{
+    lets_grow(state, free, thresholds) && some_wants_to_grow(rows)
+}
+
 /// The next guest to get a page.
 fn next_grant(
     state: State,
@@ -133,7 +160,7 @@ fn next_grant(
 /// `free` is the number of free frames, and `tax` is in hundredths of a percent. Each entry is the guest of the greatest price
 /// among those that have demand and are below their cap, where the conditions of the state hold for it; at the first for which
 /// they don't hold, the plan ends. In Low it is empty. An entry costs a logarithm of the number of rows. The only error is a
-/// want of memory, where there is a row.
+/// want of memory, where enough frames are free for the state and some guest has demand and is below its cap.
 pub fn grant(
     alloc: Global,
     state: State,
@@ -155,8 +182,11 @@ pub fn grant(
     ensures within { IfOk result (All (λ position. position < length rows.now)) }
     ensures applies { IfOk result
         (EachMove (λ before position. IsGrantable (pool_after (pool_of free rows.now) before) position)) }
-    ensures memory { IfErr result (λ _. 0 < length rows.now) }
+    ensures memory { IfErr result (λ _. CanGrow state thresholds.now (pool_of free rows.now)) }
 {
+    if !can_grow(state, free, thresholds, rows) {
+        return Ok(Plan::new(alloc));
+    }
     let mut after = copy_of(alloc, rows)?;
     let mut winners = track_revocable(alloc, tax, rows)?;
     let mut wanting = track_wanting(alloc, tax, rows)?;

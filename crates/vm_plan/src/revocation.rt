@@ -52,7 +52,8 @@ fn take_page(tax: u32, rows: &mut [PlanRow], winners: &mut Winners, position: u3
 /// and 5.2).
 ///
 /// `tax` is in hundredths of a percent. The plan has as many entries as are wanted, fewer only where no guest is above its
-/// minimum any more. An entry costs a logarithm of the number of rows. The only error is a want of memory, where there is a row.
+/// minimum any more. An entry costs a logarithm of the number of rows, and where none is wanted there is no cost at all. The only
+/// error is a want of memory, where there is a row and a page is wanted.
 pub fn revocations(
     alloc: Global,
     tax: u32,
@@ -70,8 +71,11 @@ pub fn revocations(
     ensures within { IfOk result (All (λ position. position < length rows.now)) }
     ensures applies { IfOk result
         (EachMove (λ before position. IsRevocable (rows_after (rows_of rows.now) before) position)) }
-    ensures memory { IfErr result (λ _. 0 < length rows.now) }
+    ensures memory { IfErr result (λ _. (0 < length rows.now) × (0 < wanted)) }
 {
+    if wanted == 0 {
+        return Ok(Plan::new(alloc));
+    }
     let mut after = copy_of(alloc, rows)?;
     let mut winners = track_revocable(alloc, tax, rows)?;
     let mut plan = Plan::new(alloc);
@@ -91,7 +95,7 @@ pub fn revocations(
 /// `free` is the number of free frames, and `tax` is in hundredths of a percent. The plan has as many entries as frames are
 /// missing to the goal, beside those free and those that guests hold above their targets; fewer only where no guest is above
 /// its minimum any more. In High it is empty. An entry costs a logarithm of the number of rows. The only error is a want of
-/// memory, where there is a row.
+/// memory, where there is a row and a page is wanted.
 pub fn revoke(
     alloc: Global,
     state: State,
@@ -114,7 +118,8 @@ pub fn revoke(
     ensures within { IfOk result (All (λ position. position < length rows.now)) }
     ensures applies { IfOk result
         (EachMove (λ before position. IsRevocable (rows_after (rows_of rows.now) before) position)) }
-    ensures memory { IfErr result (λ _. 0 < length rows.now) }
+    ensures memory { let wanted = shortfall_of state free thresholds.now (rows_of rows.now) in
+        IfErr result (λ _. (0 < length rows.now) × (0 < wanted)) }
 {
     let wanted = shortfall(state, free, thresholds, rows);
     revocations(alloc, tax, wanted, rows)

@@ -335,8 +335,8 @@ impl Pool {
         requires { position < length self.old.guests }
         ensures { self.new ≡ changed (λ g. ordered g (waits_above wait g)) self.old position }
     {
-        let above = self.is_above(position);
-        self.order(position, wait && above);
+        let blocked = wait && self.is_above(position);
+        self.order(position, blocked);
     }
 
     // Whether the guest at a position holds more than its target.

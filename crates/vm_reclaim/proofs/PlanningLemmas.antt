@@ -21,12 +21,13 @@ use Rattle.vm_pool.specs.Pool.{PoolView, total_held}
 use Rattle.vm_tax.specs.Offers.{greatest_position}
 use Rattle.vm_tax.specs.Ratio.{Tax}
 use Rattle.vm_reclaim.specs.Boundary.{pool_reclaimed}
+use Rattle.vm_reclaim.specs.declared.told.Paged.{Paged}
 use Rattle.vm_reclaim.specs.Fairness.{TakesFromCheapest}
-use Rattle.vm_reclaim.specs.Planning.{CanLower, paged_row, row_counts, waiting_from, waits_row}
+use Rattle.vm_reclaim.specs.Planning.{CanLower, frames_in, if_paged, paged_row, row_counts, waiting_from, waits_row}
 use Rattle.vm_reclaim.specs.Policy.{Policy}
-use Rattle.vm_reclaim.specs.Reclaim.{blocked_from, counts_of, if_blocked, pool_granted, pool_revoked, revocations_in, waits_in}
+use Rattle.vm_reclaim.specs.Reclaim.{blocked_from, counts_of, if_blocked, paged_from, pool_granted, pool_revoked, revocations_in, waits_in}
 use Rattle.vm_reclaim.specs.Rows.{idle_row, plan_pool_of, row_at, row_of, rows_of}
-use Rattle.vm_reclaim.proofs.DropLemmas.{append-one, told-first}
+use Rattle.vm_reclaim.proofs.DropLemmas.{append-nil, append-one, told-first}
 use Rattle.vm_reclaim.proofs.HeldLemmas.{released-bare}
 use Rattle.vm_reclaim.proofs.RowLemmas.{rows_changed}
 
@@ -42,13 +43,24 @@ within_rows (row ∷ rows) (suc k) can = let rest = within_rows rows k can in om
 pub here-read : (rows : List PlanRow) (k : ℕ) (row : PlanRow) → k < length rows → row ≡ get_or rows k row → get_or (plan_rows rows) k (plan_row row) ≡ plan_row row
 here-read rows k row there is = get_or-map plan_row rows k row (plan_row row) there ∙ ap plan_row (sym is)
 
--- one more row is counted
-pub step-counts : (f : Row → ℕ) (out : List ℕ) (rows : List Row) (i count : ℕ) (row : Row) (whole : List ℕ) → i < length rows → get_or rows i row ≡ row → count ≡ f row
-    → out ++ map f (drop i rows) ≡ whole → (out ++ count ∷ []) ++ map f (drop (i + 1) rows) ≡ whole
-step-counts f out rows i count row whole there here is done =
-    append-one out (map f (drop (i + 1) rows)) count
-    ∙ (ap (λ n. out ++ n ∷ map f (drop (i + 1) rows)) (is ∙ ap f (sym here))
-    ∙ (ap (λ l. out ++ map f l) (sym (drop_more rows i row there)) ∙ done))
+-- one more row is told, or gives up nothing
+told-page : (out later : List Paged) (position count : ℕ) (counts : List ℕ) → later ≡ paged_from (position + 1) counts
+    → (out ++ if_paged position count) ++ later ≡ out ++ paged_from position (count ∷ counts)
+told-page out later position zero counts is = ap (λ l. l ++ later) (append-nil out) ∙ ap (λ l. out ++ l) is
+told-page out later position (suc count) counts is = append-one out later (record { position = position; count = suc count }) ∙ ap (λ l. out ++ record { position = position; count = suc count } ∷ l) is
+
+pub step-paged : (f : Row → ℕ) (out : List Paged) (rows : List Row) (i count : ℕ) (row : Row) (whole : List Paged) → i < length rows → get_or rows i row ≡ row → count ≡ f row
+    → out ++ paged_from i (map f (drop i rows)) ≡ whole → (out ++ if_paged i count) ++ paged_from (i + 1) (map f (drop (i + 1) rows)) ≡ whole
+step-paged f out rows i count row whole there here is done =
+    told-page out (paged_from (i + 1) (map f (drop (i + 1) rows))) i count (map f (drop (i + 1) rows)) refl
+    ∙ (ap (λ n. out ++ paged_from i (n ∷ map f (drop (i + 1) rows))) (is ∙ ap f (sym here))
+    ∙ (ap (λ l. out ++ paged_from i (map f l)) (sym (drop_more rows i row there)) ∙ done))
+
+-- what is told is all that is given up
+pub frames-told : (position : ℕ) (counts : List ℕ) → frames_in (paged_from position counts) ≡ sum_of counts
+frames-told position [] = refl
+frames-told position (zero ∷ counts) = let later = frames-told (position + 1) counts in omega (arith, later)
+frames-told position (suc count ∷ counts) = ap (λ n. suc count + n) (frames-told (position + 1) counts)
 
 -- one more row waits, or doesn't
 pub step-waiting : (wait : Bool) (out : List ℕ) (rows : List Row) (i : ℕ) (b : Bool) (row : Row) (whole : List ℕ) → i < length rows → get_or rows i row ≡ row → b ≡ waits_row wait row
@@ -95,6 +107,13 @@ free-fallen pool (position ∷ moves) = free-fallen (changed revoked pool positi
 pub counts-are : (state : State) (page_rate : ℕ) (guests : Guests) → row_counts state page_rate (rows_of guests) ≡ counts_of state page_rate guests
 counts-are state page_rate [] = refl
 counts-are state page_rate (guest ∷ guests) = ap (λ later. page_count_of state (row_at guest) page_rate ∷ later) (counts-are state page_rate guests)
+
+-- what is told of the rows is what the guests give up
+pub paging-told : (state : State) (page_rate : ℕ) (told : List Paged) (rows : List Row) (guests : Guests) → rows ≡ rows_of guests → told ≡ paged_from 0 (row_counts state page_rate rows)
+    → (told ≡ paged_from 0 (counts_of state page_rate guests)) × (frames_in told ≡ sum_of (counts_of state page_rate guests))
+paging-told state page_rate told rows guests are is =
+    let all = is ∙ ap (paged_from 0) (ap (row_counts state page_rate) are ∙ counts-are state page_rate guests) in
+    (all, ap frames_in all ∙ frames-told 0 (counts_of state page_rate guests))
 
 row-released : (count : ℕ) (g : GuestRecord) → record (row_of g) { held = g.memory.held - count } ≡ row_of (released count g)
 row-released count g = λ i. record (sym (released-bare count g) i) { held = sym (released-held count g) i }
@@ -169,7 +188,7 @@ waiting-are wait position (None ∷ guests) =
 waiting-are wait position (Some g ∷ guests) =
     ap (λ later. if wait && nat_lt g.allotment.target g.memory.held then position ∷ later else later) (waiting-are wait (position + 1) guests)
 
-none-waits : (position : ℕ) (rows : List Row) → waiting_from position false rows ≡ []
+pub none-waits : (position : ℕ) (rows : List Row) → waiting_from position false rows ≡ []
 none-waits position [] = refl
 none-waits position (row ∷ rows) = none-waits (position + 1) rows
 
@@ -194,14 +213,14 @@ blocked-are policy Low pool =
 -- ---- what grants are planned from
 
 -- the frames that are free then, and the rows, are those of the pool once targets fell and guests gave up frames
-pub pool-planned : (policy : Policy) (state : State) (pool : PoolView) (free : ℕ) (counts : List ℕ) (fallen paged : List Row) → fallen ≡ rows_of (pool_revoked policy state pool).guests
-    → counts ≡ row_counts state policy.page_rate fallen → paged ≡ map (paged_row state policy.page_rate) fallen → free ≡ pool.free + sum_of counts
+pub pool-planned : (policy : Policy) (state : State) (pool : PoolView) (free : ℕ) (told : List Paged) (fallen paged : List Row) → fallen ≡ rows_of (pool_revoked policy state pool).guests
+    → told ≡ paged_from 0 (row_counts state policy.page_rate fallen) → paged ≡ map (paged_row state policy.page_rate) fallen → free ≡ pool.free + frames_in told
     → record { free = free; rows = paged } ≡ plan_pool_of (pool_reclaimed policy state pool)
-pool-planned policy state pool free counts fallen paged rows gives left frees =
+pool-planned policy state pool free told fallen paged rows tells left frees =
     let guests = (pool_revoked policy state pool).guests in
-    let given = gives ∙ (ap (row_counts state policy.page_rate) rows ∙ counts-are state policy.page_rate guests) in
+    let given = paging-told state policy.page_rate told fallen guests rows tells in
     let before = free-fallen pool (revocations_in policy state pool) in
     λ i. record {
-      free = (frees ∙ (λ j. sym before j + sum_of (given j))) i;
+      free = (frees ∙ (λ j. sym before j + given.1 j)) i;
       rows = (left ∙ (ap (map (paged_row state policy.page_rate)) rows ∙ rows-paged state policy.page_rate guests)) i;
     }

@@ -1,9 +1,10 @@
 -- A boundary is planned by rows: for private contracts alone.
-use Rattle.std.specs.Prelude.{ℕ, ◌+◌, ◌-◌, ◌&&◌, ⊤, Bool, List, [], ◌∷◌, map, nat_lt, if◌then◌else◌}
+use Rattle.std.specs.Prelude.{ℕ, zero, suc, ◌+◌, ◌-◌, ◌&&◌, ⊤, Bool, List, [], ◌∷◌, map, nat_lt, if◌then◌else◌}
 use Rattle.vm_plan.specs.declared.state.State.{State}
 use Rattle.vm_plan.specs.Paging.{page_count_of}
 use Rattle.vm_plan.specs.Revocation.{IsRevocable, revoked_row}
 use Rattle.vm_plan.specs.Row.{Row, change_at}
+use Rattle.vm_reclaim.specs.declared.told.Paged.{Paged}
 
 -- there is a guest above its minimum for each of these, one after the other
 abbrev pub CanLower : List Row → List ℕ → Type 0
@@ -17,6 +18,16 @@ row_counts state page_rate rows = map (λ row. page_count_of state row page_rate
 -- a guest that gave them up
 abbrev pub paged_row : State → ℕ → Row → Row
 paged_row state page_rate row = record row { held = row.held - page_count_of state row page_rate }
+
+-- the guest at a position and its count, where that is not 0
+abbrev pub if_paged : ℕ → ℕ → List Paged
+if_paged position zero = []
+if_paged position (suc count) = record { position = position; count = suc count } ∷ []
+
+-- how many frames are given up together
+abbrev pub frames_in : List Paged → ℕ
+frames_in [] = 0
+frames_in (paged ∷ later) = paged.count + frames_in later
 
 -- where guests wait, one waits that holds more than its target
 abbrev pub waits_row : Bool → Row → Bool

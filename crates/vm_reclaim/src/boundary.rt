@@ -1,5 +1,5 @@
 //! What a boundary takes from its guests and gives them, planned from plain rows before anything is moved.
-ghost use Rattle.std.specs.Prelude.{◌≡◌, ◌+◌, ◌<◌, ◌≤◌, ◌++◌, All, IfOk, OnOk, length, map};
+ghost use Rattle.std.specs.Prelude.{◌≡◌, ◌+◌, ◌<◌, ◌≤◌, ◌++◌, All, IfErr, IfOk, OnOk, length, map};
 ghost use Rattle.vm_guest.specs.Boundary.{revoked};
 ghost use Rattle.vm_plan.specs.Grants.{IsGrantList};
 ghost use Rattle.vm_plan.specs.Paging.{page_count_of};
@@ -7,18 +7,18 @@ ghost use Rattle.vm_plan.specs.PlanRow.{row_of, rows_of as plan_rows};
 ghost use Rattle.vm_plan.specs.Revocation.{revoked_row, rows_after, IsRevocable};
 ghost use Rattle.vm_plan.specs.Row.{change_at};
 ghost use Rattle.vm_pool.specs.Changes.{changed};
-ghost use Rattle.vm_pool.specs.Guests.{sum_of};
 ghost use Rattle.vm_pool.specs.Pool.{total_held, EachGuest};
 ghost use Rattle.vm_reclaim.specs.Boundary.{carried_out, plan_of, pool_reclaimed, pool_settled, CanCarryOut};
 ghost use Rattle.vm_reclaim.specs.Fairness.{IsAtMinimum, TakesFromCheapest};
 ghost use Rattle.vm_reclaim.specs.Numbers.{policy_in};
-ghost use Rattle.vm_reclaim.specs.Planning.{paged_row, row_counts, waiting_from, waits_row, CanLower};
+ghost use Rattle.vm_reclaim.specs.Planning.{frames_in, if_paged, paged_row, row_counts, waiting_from, waits_row, CanLower};
 ghost use Rattle.vm_reclaim.specs.Reclaim.{if_blocked, paged_from, pool_revoked, revocations_in, waits_in, wanted_in};
 ghost use Rattle.vm_reclaim.specs.Rows.{plan_pool_of, rows_of};
 ghost use Rattle.vm_sound.specs.Moves.{CanRevoke};
 ghost use Rattle.vm_tax.specs.Ratio.{hundredths};
 
 use crate::policy::Numbers;
+use crate::reclaim::waits_in;
 use crate::rows::rows_of;
 use crate::told::{Blocked, BoundaryPlan, Paged, Paging};
 use std::alloc::{AllocError, Global};
@@ -65,6 +65,7 @@ fn plan_falls(
         IfOk result (λ plan. length plan < wanted_in policy state pool.now → EachGuest IsAtMinimum (pool_revoked policy state pool.now)) }
     ensures rows { OnOk result (plan_rows rows.new ≡ rows_of (pool_revoked (policy_in numbers.now) state pool.now).guests) }
     ensures held { OnOk result (All (λ row. row.target ≤ row.held) rows.new) }
+    ensures memory { IfErr result (λ _. 0 < length pool.now.guests) }
 {
     let plan = revoke(
         alloc,
@@ -90,50 +91,46 @@ fn page_row(state: State, page_rate: u32, row: &mut PlanRow) -> u32
     count
 }
 
-// Each row gives up what it does by paging, and tells how many frames.
+// Tells what the guest at a position gives up, if it gives up any.
+fn push_paged(paged: &mut Vec<Paged>, position: u32, count: u32) -> Result<(), AllocError>
+    ensures { OnOk result (paged.new.items ≡ paged.old.items ++ if_paged position count) }
+{
+    if count > 0 {
+        paged.push(Paged { position, count })?;
+    }
+    Ok(())
+}
+
+// Each row gives up what it does by paging. Those that give up any are told.
 fn page_rows(
     alloc: Global,
     state: State,
     page_rate: u32,
     rows: &mut [PlanRow],
-) -> Result<Vec<u32>, AllocError>
-    requires { All (λ row. row.target ≤ row.held) rows.old }
-    ensures counts { IfOk result (λ counts. counts.items ≡ row_counts state page_rate (plan_rows rows.old)) }
+) -> Result<Paging, AllocError>
+    requires few { length rows.old ≤ 256 }
+    requires held { All (λ row. row.target ≤ row.held) rows.old }
+    ensures list { IfOk result (λ paging. paging ≡ paged_from 0 (row_counts state page_rate (plan_rows rows.old))) }
     ensures rows { OnOk result (plan_rows rows.new ≡ map (paged_row state page_rate) (plan_rows rows.old)) }
     ensures held { OnOk result (All (λ row. row.target ≤ row.held) rows.new) }
-{
-    let mut counts = Vec::with_capacity(alloc, rows.len())?;
-    for row in rows.iter_mut() {
-        counts.push(page_row(state, page_rate, row))?;
-    }
-    Ok(counts)
-}
-
-// The counts that are not 0, with their positions.
-fn paging_of(alloc: Global, counts: &[u32]) -> Result<Paging, AllocError>
-    requires few { length counts.now ≤ 256 }
-    ensures list { IfOk result (λ paging. paging ≡ paged_from 0 counts.now) }
+    ensures memory { IfErr result (λ _. 0 < length rows.old) }
 {
     let mut paged = Vec::new(alloc);
-    for (position, count) in counts.iter().enumerate() {
-        if *count > 0 {
-            paged.push(Paged {
-                position: position as u32,
-                count: *count,
-            })?;
-        }
+    for position in 0..rows.len() {
+        let count = page_row(state, page_rate, &mut rows[position]);
+        push_paged(&mut paged, position as u32, count)?;
     }
     Ok(Paging::new(paged))
 }
 
-// How many frames are free once guests gave up so many: all but those that are held or set aside then.
-fn free_after(pool: &Pool, counts: &[u32]) -> u32
-    requires { sum_of counts.now ≤ total_held pool.now.guests }
-    ensures { result ≡ pool.now.free + sum_of counts.now }
+// How many frames are free once guests gave up these: all but those that are held or set aside then.
+fn free_after(pool: &Pool, paged: &[Paged]) -> u32
+    requires { frames_in paged.now ≤ total_held pool.now.guests }
+    ensures { result ≡ pool.now.free + frames_in paged.now }
 {
     let mut used = pool.frames() - pool.free();
-    for count in counts {
-        used -= *count;
+    for guest in paged {
+        used -= guest.count;
     }
     pool.frames() - used
 }
@@ -155,12 +152,16 @@ fn push_blocked(blocked: &mut Vec<u32>, position: u32, is: bool) -> Result<(), A
     Ok(())
 }
 
-// The positions of the guests that have to wait, in order.
+// The positions of the guests that have to wait, in order. Where the state lets all run, no row is looked at.
 fn blocked_of(alloc: Global, state: State, rows: &[PlanRow]) -> Result<Blocked, AllocError>
     requires few { length rows.now ≤ 256 }
     ensures list { IfOk result (λ blocked. blocked ≡ waiting_from 0 (waits_in state) (plan_rows rows.now)) }
+    ensures memory { IfErr result (λ _. 0 < length rows.now) }
 {
     let mut blocked = Vec::new(alloc);
+    if !waits_in(state) {
+        return Ok(Blocked::new(blocked));
+    }
     for (position, row) in rows.iter().enumerate() {
         push_blocked(&mut blocked, position as u32, waits(state, row))?;
     }
@@ -178,7 +179,8 @@ fn blocked_of(alloc: Global, state: State, rows: &[PlanRow]) -> Result<Blocked, 
 /// more are free than the next lower threshold and the guest outbids the others, in Low never. In Low guests wait that hold more than
 /// their targets.
 ///
-/// The cost is a step for each guest, and a logarithm of their number for each page. The only error is a want of memory.
+/// The cost is a few steps for each guest, and a logarithm of their number for each page. The only error is a want of memory, where
+/// there is a guest, running or not.
 pub fn plan_boundary(
     alloc: Global,
     numbers: &Numbers,
@@ -203,15 +205,15 @@ pub fn plan_boundary(
     // Each page that is granted goes to the guest that offers most while the conditions hold, and the list ends only where they don't.
     ensures granted_fairly { let guests = plan_pool_of (pool_reclaimed (policy_in numbers.now) state pool.now) in
         IfOk result (λ plan. IsGrantList state numbers.now.thresholds (hundredths numbers.now.tax) guests plan.granted) }
+    ensures memory { IfErr result (λ _. 0 < length pool.now.guests) }
 {
     let mut rows = rows_of(alloc, pool)?;
     let revoked = plan_falls(alloc, numbers, pool, state, &mut rows)?;
-    let counts = page_rows(alloc, state, numbers.page_rate, &mut rows)?;
-    let paged = paging_of(alloc, &counts)?;
+    let paged = page_rows(alloc, state, numbers.page_rate, &mut rows)?;
     let granted = grant(
         alloc,
         state,
-        free_after(pool, &counts),
+        free_after(pool, paged.as_slice()),
         &numbers.thresholds,
         numbers.tax,
         &rows,

@@ -1,6 +1,6 @@
 //! How room is made for frames that a command needs at once, and that are not free (ballooning is too slow for that: Waldspurger,
 //! OSDI 2002, section 3.3).
-ghost use Rattle.std.specs.Prelude.{◌≡◌, ◌-◌, ◌<◌, ◌≤◌, IfOk, IfSome, OnOk, OnErr, length, fold, slice_get};
+ghost use Rattle.std.specs.Prelude.{◌≡◌, ◌-◌, ◌<◌, ◌≤◌, IfErr, IfOk, IfSome, OnOk, OnErr, length, fold, slice_get};
 ghost use Rattle.vm_plan.specs.PlanRow.{row_of, rows_of as plan_rows};
 ghost use Rattle.vm_plan.specs.Row.{change_at};
 ghost use Rattle.vm_guest.specs.Good.{IsGood};
@@ -63,6 +63,7 @@ fn raised_rows(alloc: Global, pool: &Pool, raise: Option<Raise>) -> Result<Vec<P
     ensures rows { IfOk result (λ rows. plan_rows rows.items ≡ rows_of (raised raise pool.now).guests) }
     ensures length { IfOk result (λ rows. length rows.items ≡ length pool.now.guests) }
     ensures good { OnOk result (EachGuest IsGood pool.now) }
+    ensures memory { IfErr result (λ _. 0 < length pool.now.guests) }
 {
     let mut rows = rows_of(alloc, pool)?;
     if let Some(raise) = raise {
@@ -84,6 +85,7 @@ struct Surplus {
 fn surplus_shares(alloc: Global, short: u32, rows: &[PlanRow]) -> Result<Surplus, AllocError>
     ensures counts { IfOk result (λ given. given.counts.items ≡ shares_of short (plan_rows rows.now)) }
     ensures short { IfOk result (λ given. given.short ≡ short - sum_of (shares_of short (plan_rows rows.now))) }
+    ensures memory { IfErr result (λ _. 0 < length rows.now) }
 {
     let mut left = short;
     let mut counts = Vec::with_capacity(alloc, rows.len())?;
@@ -139,6 +141,7 @@ fn plan_room(
     ensures counts { IfOk result (λ room. room.counts.items ≡ surplus_counts raise needed pool.now) }
     ensures plan { IfOk result (λ room. room.plan ≡ taken_early (hundredths tax) raise needed pool.now) }
     ensures good { OnOk result (EachGuest IsGood pool.now) }
+    ensures memory { IfErr result (λ _. 0 < length pool.now.guests) }
 {
     let rows = raised_rows(alloc, pool, raise)?;
     let given = surplus_shares(alloc, needed.saturating_sub(pool.free()), &rows)?;
@@ -153,7 +156,8 @@ fn plan_room(
 ///
 /// First guests give up what they hold above their targets, in order; then each entry of the plan loses a page of its target and a
 /// frame (min-funding revocation: Waldspurger, OSDI 2002, sections 5.1 and 5.2). `tax` is in hundredths of a percent. The guest of
-/// `raise` is seen with its raised minimum and gives nothing. The only error is a want of memory, and then nothing changed.
+/// `raise` is seen with its raised minimum and gives nothing. The only error is a want of memory, where there is a guest, running or
+/// not, and then nothing changed.
 pub fn make_room(
     alloc: Global,
     tax: u32,
@@ -172,6 +176,7 @@ pub fn make_room(
     ensures fair { let seen = raised raise (with_surplus_back raise needed pool.old) in
         IfOk result (TakesFromCheapest (hundredths tax) taken_at seen) }
     ensures unchanged { OnErr result (pool.new ≡ pool.old) }
+    ensures memory { IfErr result (λ _. 0 < length pool.old.guests) }
     ensures setup { HasSameSetup pool.old pool.new }
 {
     let room = plan_room(alloc, tax, pool, raise, needed)?;

@@ -1,5 +1,5 @@
 //! What the policy knows of the guests.
-ghost use Rattle.std.specs.Prelude.{◌≡◌, ◌≤◌, All, IfOk, IfSome, OnOk, length};
+ghost use Rattle.std.specs.Prelude.{◌≡◌, ◌<◌, ◌≤◌, All, IfErr, IfOk, IfSome, OnOk, length};
 ghost use Rattle.vm_plan.specs.PlanRow.{row_of as plan_row, rows_of as plan_rows};
 ghost use Rattle.vm_guest.specs.Good.{IsGood};
 ghost use Rattle.vm_pool.specs.Pool.{guest_at, EachGuest};
@@ -45,6 +45,7 @@ pub(crate) fn rows_of(alloc: Global, pool: &Pool) -> Result<Vec<PlanRow>, AllocE
     ensures held { IfOk result (λ rows. All (λ row. row.target ≤ row.held) rows.items) }
     ensures length { IfOk result (λ rows. length rows.items ≡ length pool.now.guests) }
     ensures good { OnOk result (EachGuest IsGood pool.now) }
+    ensures memory { IfErr result (λ _. 0 < length pool.now.guests) }
 {
     let mut rows = Vec::with_capacity(alloc, pool.len())?;
     for position in 0..pool.len() {

@@ -1,4 +1,4 @@
-use Rattle.std.proofs.Common.{◌≡◌, ◌∙◌, ap, map, refl, string_bytes, subst, sym}
+use Rattle.std.proofs.Common.{◌≡◌, ◌∙◌, ◌<◌, ◌⊎◌, ℕ, List, ap, arith, inl, inr, length, map, refl, string_bytes, subst, sym}
 use Rattle.vm_host.specs.declared.boundary.Boundary.{Boundary}
 use Rattle.vm_host.specs.Boundary.{boundary_of, bounded, finished, opened, told_after}
 use Rattle.vm_host.specs.Books.{books_of}
@@ -95,3 +95,26 @@ returns-clause-memory c =
     c.in_ok-answers.ensures.done ∙ (λ j. after_lines (policy_of (start j).machine) (start j) lines) in
     on-err c.settle.result (new ≡ left) (IsAfterSome (policy_of w.machine) (opened w) lines new)
     (λ same. all-lines (policy_of w.machine) (opened w) new lines (same ∙ mid)) c.settle.ensures.unchanged
+
+-- it was wanted for a line, or for a guest
+
+pub returns-in_err-answers-clause-wanted : goal.returns-in_err-answers-clause-wanted
+returns-in_err-answers-clause-wanted c = refused c.from_residual.result ((0 < length c.args.parts.now.names) ⊎ (0 < length c.args.lines.now)) (inr c.in_err-answers.ensures.wanted)
+
+pub returns-clause-wanted : goal.returns-clause-wanted
+returns-clause-wanted c =
+    let w = world_of c.args.parts.now in
+    let lines = map string_bytes c.args.lines.now in
+    let start = c.open.ensures in
+    let left = world_of c.obey_all.new.parts in
+    let mid : left ≡ after_lines (policy_of w.machine) (opened w) lines =
+    c.in_ok-answers.ensures.done ∙ (λ j. after_lines (policy_of (start j).machine) (start j) lines) in
+    let sound : IsSoundWorld left =
+    subst (λ (w : World). IsSoundWorld w) (sym mid) (sound-lines (policy_of w.machine) (opened w) lines (sound-opened w c.requires.sound)) in
+    let first = subst (λ (v : World). KeepsDomains w v) (sym c.open.ensures) (record { machine = refl; names = refl; setup = record { frames = refl; overhead = refl; configs = refl } }) in
+    let kept = keeps-domains w (world_of c.open.new.parts) left first c.in_ok-answers.ensures.kept in
+    let paired = sound.pool.paired in
+    let named = sound.named in
+    let same = ap (λ (names : List (List ℕ)). length names) kept.names in
+    on-err c.settle.result (0 < length left.pool.guests) ((0 < length w.names) ⊎ (0 < length c.args.lines.now))
+    (λ some. inl (omega (arith, paired, named, same, some))) c.settle.ensures.wanted

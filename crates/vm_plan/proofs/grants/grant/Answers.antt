@@ -1,14 +1,15 @@
 use Rattle.std.proofs.Common.{◌≡◌, ℕ, ◌<◌, ◌++◌, ◌∷◌, [], List, IfSome, slice_get, sym, ap, ◌∙◌, subst, arith}
+use Rattle.std.proofs.lemmas.Bool.{false≢true}
 use Rattle.std.proofs.lemmas.List.{length_push, with_items_is}
 use Rattle.vm_tax.specs.Ratio.{hundredths}
 use Rattle.vm_plan.specs.declared.row.PlanRow.{PlanRow}
 use Rattle.vm_plan.specs.Row.{change_at}
 use Rattle.vm_plan.specs.PlanRow.{row_of, rows_of, pool_of}
-use Rattle.vm_plan.specs.Grants.{Pool, IsNextGrant, IsGrantList, granted, granted_row, frames_for, pool_after, total_demand}
+use Rattle.vm_plan.specs.Grants.{Pool, CanGrow, IsNextGrant, IsGrantList, granted, granted_row, frames_for, pool_after, total_demand}
 use Rattle.vm_plan.proofs.MoveLemmas.{each-push}
 use Rattle.vm_plan.proofs.GrantLemmas.{plan_row_fact, grant_cost, at_most_one, pool-granted, pool_after-push}
 use Rattle.vm_plan.proofs.ListLemmas.{next_demand, grant_list-only}
-use Rattle.vm_plan.proofs.Places.{wanting_row, may_free, grants_within, grants_apply}
+use Rattle.vm_plan.proofs.Places.{wanting_row, may_free, grants_within, grants_apply, no_grants}
 use Rattle.vm_plan.proofs.RowLemmas.{plan_rows-have_shares}
 use Rattle.vm_plan.proofs.SumLemmas.{few_targets, target-granted, total_target}
 use Rattle.vm_plan.proofs.grants.grant.Goals as goal
@@ -82,6 +83,22 @@ loop-position-preserved c =
       few = rw whole (omega arith);
       targets = rw (whole, pushed) (omega (arith, length_push moves position, target-granted (rows_of rows) position wants.0, ap total_target given, c.loop-position.invariant.targets));
     }
+
+-- ---- no guest can grow
+
+pub returns-then-not-can_grow-clause-list : goal.returns-then-not-can_grow-clause-list
+returns-then-not-can_grow-clause-list c =
+    let t = c.args.thresholds.now in
+    let pool = pool_of c.args.free c.args.rows.now in
+    let none : ¬ CanGrow c.args.state t pool = λ can. false≢true (sym c.if-not-can_grow.true ∙ c.can_grow.ensures.1 can) in
+    subst (λ (moves : List ℕ). IsGrantList c.args.state t (hundredths c.args.tax) pool moves) (sym c.new.ensures) (no_grants c.args.state t (hundredths c.args.tax) pool none)
+
+pub returns-then-not-can_grow-clause-exact : goal.returns-then-not-can_grow-clause-exact
+returns-then-not-can_grow-clause-exact c =
+    let rows = c.args.rows.now in
+    grant_list-only c.args.state c.args.thresholds.now (hundredths c.args.tax) (pool_of c.args.free rows) c.new.result (plan_rows-have_shares rows) (returns-then-not-can_grow-clause-list c)
+
+-- ---- some guest can
 
 pub returns-clause-list : goal.returns-clause-list
 returns-clause-list c =

@@ -5,7 +5,7 @@ use Rattle.vm_tax.specs.Offers.{IsLeast}
 use Rattle.vm_plan.specs.declared.row.PlanRow.{PlanRow}
 use Rattle.vm_plan.specs.Row.{Row, revocable_ratios, change_at}
 use Rattle.vm_plan.specs.PlanRow.{rows_of}
-use Rattle.vm_plan.specs.Revocation.{rows_after, revoked_row, IsRevocationList}
+use Rattle.vm_plan.specs.Revocation.{rows_after, revoked_row, revocation_list, IsRevocationList}
 use Rattle.vm_plan.specs.declared.tracking.Kind.TheVariants.{Revocable}
 use Rattle.vm_plan.proofs.ListLemmas.{revocation_list-only}
 use Rattle.vm_plan.proofs.MoveLemmas.{each-push, rows_after-push, least_above_min, none_tracked}
@@ -45,6 +45,17 @@ loop-turn-preserved c =
       turns = rw pushed (longer ∙ ap (λ n. n + 1) c.loop-turn.invariant.turns);
       targets = rw (whole, pushed) (omega (arith, longer, lower, ap total_target taken, ap total_target c.loop-turn.invariant.rows, c.loop-turn.invariant.targets));
     }
+
+-- ---- none is wanted
+
+pub returns-then-wanted-eq0-clause-exact : goal.returns-then-wanted-eq0-clause-exact
+unfolding revocation_list
+returns-then-wanted-eq0-clause-exact c =
+    let tax = hundredths c.args.tax in
+    let rows = rows_of c.args.rows.now in
+    c.new.ensures ∙ ap (λ n. revocation_list tax n rows) (sym c.if-wanted-eq0.true)
+
+-- ---- some are
 
 pub returns-clause-list : goal.returns-clause-list
 returns-clause-list c =

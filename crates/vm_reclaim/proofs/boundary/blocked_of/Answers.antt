@@ -1,9 +1,9 @@
-use Rattle.std.proofs.Common.{◌+◌, ◌++◌, ◌∙◌, ℕ, List, ap, arith, drop}
+use Rattle.std.proofs.Common.{◌≡◌, ◌+◌, ◌++◌, ◌∙◌, ℕ, List, ap, arith, drop, false, sym}
 use Rattle.std.proofs.lemmas.List.{length-map}
 use Rattle.vm_plan.specs.PlanRow.{row_of, rows_of}
 use Rattle.vm_reclaim.specs.Planning.{waiting_from}
 use Rattle.vm_reclaim.specs.Reclaim.{waits_in}
-use Rattle.vm_reclaim.proofs.PlanningLemmas.{here-read, step-waiting}
+use Rattle.vm_reclaim.proofs.PlanningLemmas.{here-read, none-waits, step-waiting}
 use Rattle.vm_reclaim.proofs.boundary.blocked_of.Goals as goal
 
 pub loop-position-preserved : goal.loop-position-preserved
@@ -21,3 +21,9 @@ loop-position-preserved c =
           ∙ step-waiting wait c.loop-position.blocked.items rows i c.waits.result (row_of row) (waiting_from 0 wait rows) (omega (arith, ends, before, wide))
           (here-read c.args.rows.now i row (omega (arith, ends, before)) c.index-rows-position.is) c.waits.ensures c.loop-position.invariant.done;
     }
+
+pub returns-then-not-waits_in-clause-list : goal.returns-then-not-waits_in-clause-list
+returns-then-not-waits_in-clause-list c =
+    let rows = rows_of c.args.rows.now in
+    let run : waits_in c.args.state ≡ false = sym c.waits_in.ensures ∙ c.if-not-waits_in.true in
+    c.new.ensures ∙ (c.new-blocked.ensures.items ∙ sym (ap (λ wait. waiting_from 0 wait rows) run ∙ none-waits 0 rows))

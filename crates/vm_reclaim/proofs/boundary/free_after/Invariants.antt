@@ -1,10 +1,10 @@
 use Rattle.std.proofs.Common.{◌≡◌, ◌-◌, ◌+◌, ◌≤◌, drop}
-use Rattle.vm_pool.specs.Guests.{sum_of}
+use Rattle.vm_reclaim.specs.Planning.{frames_in}
 use Rattle.vm_reclaim.proofs.boundary.free_after.Given as goal
 
--- what is left of the counts was not given up yet
-abbrev pub invariant-loop-count : goal.invariant-loop-count
-invariant-loop-count l = record {
-  left : l.used + sum_of l.counts ≡ l.fn.pool.frames - l.fn.pool.free + sum_of (drop l.count-index l.counts);
-  within : sum_of (drop l.count-index l.counts) ≤ l.used;
+-- what is left of them was not given up yet
+abbrev pub invariant-loop-guest : goal.invariant-loop-guest
+invariant-loop-guest l = record {
+  left : l.used + frames_in l.paged ≡ l.fn.pool.frames - l.fn.pool.free + frames_in (drop l.guest-index l.paged);
+  within : frames_in (drop l.guest-index l.paged) ≤ l.used;
 }

@@ -4,17 +4,17 @@ use Rattle.vm_plan.specs.declared.row.PlanRow.{PlanRow}
 use Rattle.vm_plan.specs.Grants.{Pool, grant_list, IsGrantList}
 use Rattle.vm_plan.specs.PlanRow.{pool_of, rows_of as plan_rows}
 use Rattle.vm_plan.proofs.Places.{grants_apply}
-use Rattle.vm_pool.specs.Guests.{sum_of}
 use Rattle.vm_sound.specs.Moves.{CanGrant, CanRevoke}
 use Rattle.vm_reclaim.specs.declared.told.BoundaryPlan.{BoundaryPlan}
+use Rattle.vm_reclaim.specs.declared.told.Paged.{Paged}
 use Rattle.vm_reclaim.specs.Boundary.{carried_out, pool_reclaimed, CanCarryOut}
 use Rattle.vm_reclaim.specs.Numbers.{policy_in}
-use Rattle.vm_reclaim.specs.Planning.{row_counts, waiting_from}
-use Rattle.vm_reclaim.specs.Reclaim.{counts_of, paged_from, pool_revoked, revocations_in, waits_in}
+use Rattle.vm_reclaim.specs.Planning.{frames_in, waiting_from}
+use Rattle.vm_reclaim.specs.Reclaim.{pool_revoked, revocations_in, waits_in}
 use Rattle.vm_reclaim.specs.Rows.{plan_pool_of, rows_of}
 use Rattle.vm_reclaim.proofs.CanLemmas.{can_revoke}
 use Rattle.vm_reclaim.proofs.CarryLemmas.{can-settle, settled-is}
-use Rattle.vm_reclaim.proofs.PlanningLemmas.{blocked-are, counts-are, given-within, held-fallen, pool-planned}
+use Rattle.vm_reclaim.proofs.PlanningLemmas.{blocked-are, given-within, held-fallen, paging-told, pool-planned}
 use Rattle.vm_reclaim.proofs.RowLemmas.{can_grant}
 use Rattle.vm_reclaim.proofs.boundary.plan_boundary.Goals as goal
 
@@ -26,9 +26,8 @@ free_after-requires c =
     let fallen = pool_revoked policy state pool in
     let whole = take_at c.plan_falls.new.rows _ c.in_ok-rows.rows.len (omega arith) in
     let rows : plan_rows c.deref_mut-2.result.now ≡ rows_of fallen.guests = ap plan_rows (c.deref_mut-2.ensures.value ∙ whole) ∙ c.in_ok-revoked.ensures.rows in
-    let counts : c.deref-2.result.now ≡ counts_of state policy.page_rate fallen.guests =
-    c.deref-2.ensures.value ∙ (c.in_ok-counts.ensures.counts ∙ (ap (row_counts state policy.page_rate) rows ∙ counts-are state policy.page_rate fallen.guests)) in
-    let sum = ap sum_of counts in
+    let told = c.as_slice.ensures ∙ c.in_ok-paged.ensures.list in
+    let sum = (paging-told state policy.page_rate c.as_slice.result.now (plan_rows c.deref_mut-2.result.now) fallen.guests rows told).1 in
     let given = given-within state policy.page_rate fallen.guests in
     let held = held-fallen pool (revocations_in policy state pool) in
     omega (arith, sum, given, held)
@@ -41,16 +40,16 @@ returns-clause-plan c =
     let fallen = (pool_revoked policy state pool).guests in
     let first = take_at c.plan_falls.new.rows _ c.in_ok-rows.rows.len (omega arith) in
     let rows = ap plan_rows (c.deref_mut-2.ensures.value ∙ first) ∙ c.in_ok-revoked.ensures.rows in
-    let free = c.free_after.ensures ∙ ap (λ (counts : List ℕ). pool.free + sum_of counts) c.deref-2.ensures.value in
-    let planned = pool-planned policy state pool c.free_after.result c.in_ok-counts.counts.items (plan_rows c.deref_mut-2.result.now) (plan_rows c.page_rows.new.rows) rows
-    c.in_ok-counts.ensures.counts c.in_ok-counts.ensures.rows free in
-    let counts = c.in_ok-counts.ensures.counts ∙ (ap (row_counts state policy.page_rate) rows ∙ counts-are state policy.page_rate fallen) in
-    let paged = c.in_ok-paged.ensures.list ∙ ap (paged_from 0) (c.deref.ensures.value ∙ counts) in
+    let told = c.in_ok-paged.ensures.list in
+    let free = c.free_after.ensures ∙ ap (λ (told : List Paged). pool.free + frames_in told) c.as_slice.ensures in
+    let planned = pool-planned policy state pool c.free_after.result c.in_ok-paged.paged (plan_rows c.deref_mut-2.result.now) (plan_rows c.page_rows.new.rows) rows
+    told c.in_ok-paged.ensures.rows free in
+    let paged = (paging-told state policy.page_rate c.in_ok-paged.paged (plan_rows c.deref_mut-2.result.now) fallen rows told).0 in
     let granted = c.in_ok-granted.ensures.exact
-    ∙ (ap (λ (rows : List PlanRow). grant_list state policy.thresholds policy.tax (pool_of c.free_after.result rows)) (c.deref-3.ensures.value ∙ take_at c.page_rows.new.rows _ c.in_ok-rows.rows.len (omega arith))
+    ∙ (ap (λ (rows : List PlanRow). grant_list state policy.thresholds policy.tax (pool_of c.free_after.result rows)) (c.deref.ensures.value ∙ take_at c.page_rows.new.rows _ c.in_ok-rows.rows.len (omega arith))
     ∙ ap (grant_list state policy.thresholds policy.tax) planned) in
     let blocked = c.in_ok-blocked.ensures.list
-    ∙ (ap (λ (rows : List PlanRow). waiting_from 0 (waits_in state) (plan_rows rows)) (c.deref-4.ensures.value ∙ take_at c.page_rows.new.rows _ c.in_ok-rows.rows.len (omega arith))
+    ∙ (ap (λ (rows : List PlanRow). waiting_from 0 (waits_in state) (plan_rows rows)) (c.deref-2.ensures.value ∙ take_at c.page_rows.new.rows _ c.in_ok-rows.rows.len (omega arith))
     ∙ (ap (λ (pool : Pool). waiting_from 0 (waits_in state) pool.rows) planned ∙ blocked-are policy state (pool_reclaimed policy state pool))) in
     λ i. record { revoked = c.in_ok-revoked.ensures.plan i; paged = paged i; granted = granted i; blocked = blocked i }
 
@@ -61,11 +60,11 @@ returns-clause-granted_fairly c =
     let policy = policy_in c.args.numbers.now in
     let first = take_at c.plan_falls.new.rows _ c.in_ok-rows.rows.len (omega arith) in
     let rows = ap plan_rows (c.deref_mut-2.ensures.value ∙ first) ∙ c.in_ok-revoked.ensures.rows in
-    let free = c.free_after.ensures ∙ ap (λ (counts : List ℕ). pool.free + sum_of counts) c.deref-2.ensures.value in
-    let planned = pool-planned policy state pool c.free_after.result c.in_ok-counts.counts.items (plan_rows c.deref_mut-2.result.now) (plan_rows c.page_rows.new.rows) rows
-    c.in_ok-counts.ensures.counts c.in_ok-counts.ensures.rows free in
+    let free = c.free_after.ensures ∙ ap (λ (told : List Paged). pool.free + frames_in told) c.as_slice.ensures in
+    let planned = pool-planned policy state pool c.free_after.result c.in_ok-paged.paged (plan_rows c.deref_mut-2.result.now) (plan_rows c.page_rows.new.rows) rows
+    c.in_ok-paged.ensures.list c.in_ok-paged.ensures.rows free in
     subst (λ (p : Pool). IsGrantList state policy.thresholds policy.tax p c.in_ok-granted.granted)
-    (ap (λ (rows : List PlanRow). pool_of c.free_after.result rows) (c.deref-3.ensures.value ∙ take_at c.page_rows.new.rows _ c.in_ok-rows.rows.len (omega arith)) ∙ planned) c.in_ok-granted.ensures.list
+    (ap (λ (rows : List PlanRow). pool_of c.free_after.result rows) (c.deref.ensures.value ∙ take_at c.page_rows.new.rows _ c.in_ok-rows.rows.len (omega arith)) ∙ planned) c.in_ok-granted.ensures.list
 
 pub returns-clause-can : goal.returns-clause-can
 returns-clause-can c =

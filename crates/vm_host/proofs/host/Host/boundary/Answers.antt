@@ -1,4 +1,5 @@
-use Rattle.std.proofs.Common.{◌≡◌, ◌≢◌, ◌∙◌, ℕ, List, ap, map, refl, rules, string_bytes, subst, sym}
+use Rattle.std.proofs.Common.{◌≡◌, ◌≢◌, ◌∙◌, ◌<◌, ℕ, List, ⊎_elim, ap, arith, inl, inr, length, map, refl, rules, string_bytes, subst, sym}
+use Rattle.std.proofs.lemmas.List.{length-map}
 use Rattle.vm_host.specs.declared.phase.Phase.TheVariants.{Failed}
 use Rattle.vm_host.specs.Boundary.{boundary_of, bounded, FailsAfterSome}
 use Rattle.vm_host.specs.Fairness.{IsFairBoundary}
@@ -27,6 +28,9 @@ returns-then-eq-clause-unchanged c = λ _. refl
 
 pub returns-then-eq-clause-memory : goal.returns-then-eq-clause-memory
 returns-then-eq-clause-memory c = λ is. absurd cc
+
+pub returns-then-eq-clause-wanted : goal.returns-then-eq-clause-wanted
+returns-then-eq-clause-wanted c = λ is. absurd cc
 
 pub returns-then-eq-clause-kept : goal.returns-then-eq-clause-kept
 returns-then-eq-clause-kept c = λ is. absurd cc
@@ -78,6 +82,9 @@ returns-in-Ok-clause-unchanged c = λ is. absurd cc
 
 pub returns-in-Ok-clause-memory : goal.returns-in-Ok-clause-memory
 returns-in-Ok-clause-memory c = λ is. absurd cc
+
+pub returns-in-Ok-clause-wanted : goal.returns-in-Ok-clause-wanted
+returns-in-Ok-clause-wanted c = λ is. absurd cc
 
 pub returns-in-Ok-clause-kept : goal.returns-in-Ok-clause-kept
 returns-in-Ok-clause-kept c = λ is. absurd cc
@@ -135,6 +142,13 @@ returns-in-Err-clause-memory c =
     λ _. subst (λ (l : List (List ℕ)). FailsAfterSome c.args.self.now l new) c.as_slice.ensures
     (subst (λ (v : World). FailsAfterSome v lines new) c.self.view_is
     (fails-some (world_of c.self.inside.parts) (world_of c.bound.new.parts) new lines c.in-Err.ensures.memory c.fail.ensures.failed))
+
+pub returns-in-Err-clause-wanted : goal.returns-in-Err-clause-wanted
+returns-in-Err-clause-wanted c =
+    let long = ap (λ (lines : List (List ℕ)). length lines) c.as_slice.ensures in
+    let wide = length-map c.as_slice.result.now string_bytes in
+    let named = ap (λ (w : World). length w.names) c.self.view_is in
+    λ _. ⊎_elim (λ (some : 0 < length c.self.inside.parts.names). inl (omega (arith, named, some))) (λ (some : 0 < length c.as_slice.result.now). inr (omega (arith, long, wide, some))) c.in-Err.ensures.wanted
 
 pub returns-in-Err-clause-kept : goal.returns-in-Err-clause-kept
 returns-in-Err-clause-kept c =
