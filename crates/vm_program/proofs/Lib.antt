@@ -1,2 +1,1 @@
 mod StatusLemmas
-mod CommandLineLemmas

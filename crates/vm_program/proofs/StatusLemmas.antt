@@ -1,6 +1,6 @@
 -- What the statuses 1 and 2 of a run say.
 use Rattle.std.proofs.Common.{◌≡◌, ◌⊎◌, ℕ, ◌<◌, ◌≤◌, List, Option, Bool, Err, Result, ⊎_elim, arith}
-use Rattle.vm_program.specs.Statuses.{status_of, IsRefused}
+use Rattle.vm_command_line.specs.Statuses.{status_of, IsRefused}
 use Rattle.vm_sim.specs.declared.run_error.RunError.{RunError}
 use Rattle.vm_sim.specs.declared.run_error.RunError.TheVariants.{Config, Read, Write, Memory, Workers}
 use Rattle.vm_sim.specs.Run.{Fails}

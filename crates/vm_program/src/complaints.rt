@@ -1,49 +1,29 @@
-//! What is said on standard error, and the exit status that goes with it.
+//! What is said on standard error of a refused configuration.
 ghost use Rattle.std.specs.Prelude.{◌≡◌};
-ghost use Rattle.vm_program.specs.Statuses.{status_of};
+ghost use Rattle.vm_command_line.specs.Statuses.{status_of};
 
+use crate::line::LINE;
+use std::fmt;
 use vm_sim::{ConfigError, RunError};
 
-/// The configuration is refused.
-const BAD_CONFIG: u8 = 1;
+// A fault by its number, and that of a step by its place.
+#[derive(Clone, Copy)]
+struct Numbered(ConfigError);
 
-/// The words are refused, or ask for help.
-pub const BAD_WORDS: u8 = 2;
-
-/// Reading or writing failed, or memory was refused.
-const BAD_SYSTEM: u8 = 3;
-
-/// Says that memory was refused.
-pub fn no_memory(system: &impl Eprint) -> u8
-    ensures { result ≡ 3 }
-{
-    let _ = eprintln!(system; "vmmem: out of memory");
-    BAD_SYSTEM
-}
-
-/// Says how the program is called.
-pub fn usage(system: &impl Eprint) -> u8
-    ensures { result ≡ 2 }
-{
-    let _ = eprintln!(system; "usage: vmmem [--workers N] < CONFIGURATION > REPORT");
-    BAD_WORDS
-}
-
-/// Says why the configuration is refused.
-fn complain_of_config(system: &impl Eprint, fault: ConfigError) -> u8
-    ensures { result ≡ 1 }
-{
-    let number = fault.number();
-    let _ = match fault {
-        ConfigError::Trace { guest, step, fault } => {
-            let fault = fault as u8;
-            eprintln!(system;
-                "vmmem: config error {number} guest {guest} step {step} fault {fault}"
-            )
+impl fmt::Display for Numbered {
+    fn fmt<W: fmt::Write>(&self, f: &mut fmt::Formatter<W>) -> fmt::Result {
+        let number = self.0.number();
+        match self.0 {
+            ConfigError::Trace { guest, step, fault } => {
+                let fault = fault as u8;
+                write!(
+                    f,
+                    "config error {number} guest {guest} step {step} fault {fault}"
+                )
+            }
+            _ => write!(f, "config error {number}"),
         }
-        _ => eprintln!(system; "vmmem: config error {number}"),
-    };
-    BAD_CONFIG
+    }
 }
 
 /// Says why the run stopped, and gives the status to end with.
@@ -51,16 +31,7 @@ pub fn complain(system: &impl Eprint, error: RunError) -> u8
     ensures { result ≡ status_of error }
 {
     match error {
-        RunError::Config(fault) => complain_of_config(system, fault),
-        RunError::Workers => usage(system),
-        RunError::Read => {
-            let _ = eprintln!(system; "vmmem: read failed");
-            BAD_SYSTEM
-        }
-        RunError::Write => {
-            let _ = eprintln!(system; "vmmem: write failed");
-            BAD_SYSTEM
-        }
-        RunError::Memory => no_memory(system),
+        RunError::Config(fault) => LINE.refuse(system, Numbered(fault)),
+        _ => LINE.complain(system, error),
     }
 }

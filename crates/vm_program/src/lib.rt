@@ -7,10 +7,10 @@
 
 mod complaints;
 mod law;
+mod line;
 mod program;
 #[cfg(test)]
 mod tests;
-mod words;
 
 pub use law::law_words;
 pub use program::{status, status_for, vmmem};

@@ -1,52 +1,21 @@
 //! From the words of the command line to the exit status.
-ghost use Rattle.std.specs.Prelude.{◌≡◌, ◌<◌, ◌≤◌, ◌⊎◌, IfErr, IfOk, OnOk, map, string_bytes};
+ghost use Rattle.std.specs.Prelude.{◌≡◌, ◌<◌, ◌≤◌, map, string_bytes};
 ghost use Rattle.std.specs.Io.KnownBytes.{Appends, Keeps};
 ghost use Rattle.std.specs.Process.{exit_status};
-ghost use Rattle.vm_program.specs.CommandLine.{AreTaken, IsStatusOfWords};
-ghost use Rattle.vm_program.specs.Statuses.{IsRefused, StopsEarly};
+ghost use Rattle.vm_command_line.specs.Statuses.{IsRefused};
+ghost use Rattle.vm_program.specs.CommandLine.{AreTaken};
+ghost use Rattle.vm_program.specs.Statuses.{StopsEarly};
 ghost use Rattle.vm_sim.specs.Report.{report_of};
 ghost use Rattle.vm_sim.specs.Run.{NewlyFailed, RunsConfig};
 
-use crate::complaints::{BAD_WORDS, complain, no_memory, usage};
-use crate::words;
-use clap::error::ErrorKind;
+use crate::complaints::complain;
+use crate::line::LINE;
+use std::io;
 use std::process::ExitCode;
 use std::rt::Env;
 use std::thread::Threads;
-use std::{env, io};
+use vm_command_line::DONE;
 use vm_sim::{Open, Sink, Source, Watched, run};
-
-/// The whole report was written.
-const DONE: u8 = 0;
-
-/// The program's name and the words behind it, or the status to end with.
-fn given_words(system: &(impl Env + Eprint + AllocGlobal)) -> Result<Vec<String>, u8>
-    ensures { IfErr result (λ status. (status ≡ 2) ⊎ (status ≡ 3)) }
-{
-    let args = match env::args(system) {
-        Ok(args) => args,
-        Err(error) if error.kind() == io::ErrorKind::OutOfMemory => return Err(no_memory(system)),
-        Err(_) => return Err(usage(system)),
-    };
-    args.collect::<Vec<String>>(system.alloc())
-        .map_err(|_| no_memory(system))
-}
-
-/// On how many threads the guests run, or the status to end with.
-fn workers(system: &(impl Eprint + AllocGlobal), words: &[String]) -> Result<u32, u8>
-    ensures number { IfOk result (λ number. (1 ≤ number) × (number ≤ 64)) }
-    ensures taken { OnOk result (AreTaken (map string_bytes words.now)) }
-    ensures refused { IfErr result (IsStatusOfWords (map string_bytes words.now)) }
-{
-    match words::workers(system.alloc(), words) {
-        Ok(workers) => Ok(workers),
-        Err(error) if error.kind() == ErrorKind::OutOfMemory => Err(no_memory(system)),
-        Err(error) => {
-            let _ = eprint!(system; "{error}");
-            Err(BAD_WORDS)
-        }
-    }
-}
 
 /// What [`status`] does, with these words in place of the system's. The first is the program's name.
 pub fn status_for<RT: Threads + Sync, R: Source, W: Sink>(
@@ -70,11 +39,11 @@ pub fn status_for<RT: Threads + Sync, R: Source, W: Sink>(
     ensures taken { result < 2 → AreTaken (map string_bytes words.now) }
     ensures untaken { result ≡ 2 → AreTaken (map string_bytes words.now) → ⊥ }
 {
-    let workers = match workers(system, words) {
-        Ok(workers) => workers,
+    let request = match LINE.request(system, words) {
+        Ok(request) => request,
         Err(status) => return status,
     };
-    match run(rt, system.alloc(), &Open, workers, reader, writer) {
+    match run(rt, system.alloc(), &Open, request.workers, reader, writer) {
         Ok(host) => {
             host.close();
             DONE
@@ -112,7 +81,7 @@ pub fn status<RT: Threads + Sync, R: Source, W: Sink>(
     ensures writer_failed { NewlyFailed (W.has_failed writer.old) (W.has_failed writer.new) → result ≡ 3 }
     ensures known { result ≤ 3 }
 {
-    match given_words(system) {
+    match LINE.words(system) {
         Ok(words) => status_for(rt, system, words.as_slice(), reader, writer),
         Err(status) => status,
     }

@@ -1,12 +1,10 @@
 -- One record, one position, one row more.
-use Rattle.std.proofs.Common.{◌≡◌, ◌≢◌, ℕ, zero, suc, ◌+◌, ◌<◌, List, ◌∷◌, [], ◌++◌, length, take, get_or, false, Option, Some, None, Result, Ok, Err, IfOk, OnOk, refl, ap, ◌∙◌, sym, subst, add-one, arith}
+use Rattle.std.proofs.Common.{◌≡◌, ◌≢◌, ℕ, zero, suc, ◌+◌, ◌<◌, List, ◌∷◌, [], ◌++◌, length, take, get_or, false, Option, Some, None, Result, Ok, Err, IfOk, OnOk, ap, ◌∙◌, sym, subst, add-one, arith}
 use Rattle.std.proofs.lemmas.List.{append-nil, take_more}
 use Rattle.std.proofs.lemmas.List.Concat.{flat_map-append}
-use Rattle.std.proofs.lemmas.List.FromFn.{map-range_with_len_more}
 use Rattle.std.specs.Io.KnownBytes.{Appends, Keeps, append_known}
 use Rattle.std.specs.List.{flat_map, range_with_len}
 use Rattle.csv.proofs.WriteFacts.{appends-more}
-use Rattle.csv.specs.declared.writer.QuoteStyle.{QuoteStyle}
 use Rattle.csv.specs.declared.writer.QuoteStyle.TheVariants.{Necessary, NonNumeric}
 use Rattle.csv.specs.declared.writer.Writer.{Writer}
 use Rattle.csv.specs.declared.writer.WriterBuilder.{WriterBuilder}

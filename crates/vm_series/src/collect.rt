@@ -1,8 +1,8 @@
 // From a configuration to the rows of its run.
 ghost use Rattle.std.specs.Prelude.{◌≡◌, ◌↔◌, ◌⊎◌, ◌<◌, ◌≤◌, ◌∷◌, ◌++◌, [], map, IfErr, IfOk, OnOk, Err, slice_get, string_bytes, unwrap_or};
 ghost use Rattle.vm_config.specs.declared.config.Config.{Config};
-ghost use Rattle.vm_sim.specs.declared.run_error.RunError.TheVariants.{Memory, Read, Workers};
-ghost use Rattle.vm_sim.specs.Run.{FailsUnwritten, NewlyFailed, RunsConfig};
+ghost use Rattle.vm_sim.specs.declared.run_error.RunError.TheVariants.{Memory, Workers};
+ghost use Rattle.vm_sim.specs.Run.{FailsOnText, MeansConfig};
 ghost use Rattle.vm_sim.specs.Stepping.{run_after};
 ghost use Rattle.vm_series.specs.Rows.{row_of_host, rows_before, rows_of};
 
@@ -10,7 +10,7 @@ use crate::rows::{EpochRow, Series};
 use std::alloc::{AllocError, Global};
 use std::thread::Threads;
 use vm_host::{Gate, Host};
-use vm_sim::{RunError, Source, SteppedRun};
+use vm_sim::{RunError, SteppedRun};
 
 const MAX_WORKERS: u32 = 64;
 
@@ -87,33 +87,29 @@ fn series_of<RT: Threads + Sync, G: Gate + Sync>(
     Ok(Series::new(frames, names, rows))
 }
 
-/// Reads a configuration to the reader's end, runs it, and keeps what is seen of the host after each epoch: its state, its free
-/// frames, and its view of each running guest.
+/// Runs the configuration that a text is, and keeps what is seen of the host after each epoch: its state, its free frames, and its
+/// view of each running guest.
 ///
 /// The guests of an epoch are served by at most `workers` threads, the caller's among them; each guest passes the gate. Whatever
 /// their number, the rows are those of one worker that serves the guests in order.
 ///
-/// There are 1 to 64 workers, else the answer is [`RunError::Workers`], before anything is read. At most 16777216 bytes are read,
-/// and one more. [`RunError::Read`] comes where the reader failed or more came, [`RunError::Config`] with the first fault of the
-/// configuration, and [`RunError::Memory`] where memory was refused.
-pub fn collect_series<RT: Threads + Sync, G: Gate + Sync, R: Source>(
+/// There are 1 to 64 workers, else the answer is [`RunError::Workers`], before anything is run. [`RunError::Config`] comes with the
+/// first fault of the configuration, and [`RunError::Memory`] where memory was refused.
+pub fn collect_series<RT: Threads + Sync, G: Gate + Sync>(
     rt: &RT,
     alloc: Global,
     gate: &G,
     workers: u32,
-    reader: &mut R,
+    text: &[u8],
 ) -> Result<Series, RunError>
     ensures workers { (result ≡ Err Workers) ↔ ((workers < 1) ⊎ (64 < workers)) }
-    ensures rows { IfOk result (λ series. RunsConfig (R.remaining reader.old) (R.remaining reader.new)
-        (λ config. series ≡ rows_of config)) }
-    ensures failed { IfErr result (FailsUnwritten (R.remaining reader.old) (R.remaining reader.new)
-        16777216 (R.has_failed reader.new)) }
-    ensures reader_failed { NewlyFailed (R.has_failed reader.old) (R.has_failed reader.new) → result ≡ Err Read }
+    ensures rows { IfOk result (λ series. MeansConfig (λ config. series ≡ rows_of config) text.now) }
+    ensures failed { IfErr result (FailsOnText text.now) }
 {
     if workers < 1 || workers > MAX_WORKERS {
         return Err(RunError::Workers);
     }
-    let mut run = SteppedRun::read(alloc, reader)?;
+    let mut run = SteppedRun::of_text(alloc, text)?;
     let series = series_of(rt, alloc, gate, workers, &mut run);
     run.close();
     series

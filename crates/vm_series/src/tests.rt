@@ -2,7 +2,7 @@
 use crate::{collect_series, csv_text};
 use std::test::Fail;
 use vm_host::{Open, State};
-use vm_sim::{ConfigError, RunError, Watched};
+use vm_sim::{ConfigError, RunError};
 
 const LOW_AND_BACK: &str =
     "{\"version\":1,\"frames\":100,\"swap\":90,\"page_rate\":1,\"quantum\":1,\"epochs\":4,\"guests\":[\
@@ -33,8 +33,7 @@ fn rows_become_records(rt: HostRuntime) -> Result<(), Fail> {
         (STALLED, STALLED_RECORDS),
     ] {
         for workers in [1, 2] {
-            let mut reader = Watched::new(config.as_bytes());
-            let series = collect_series(&rt, alloc, &Open, workers, &mut reader).expect(
+            let series = collect_series(&rt, alloc, &Open, workers, config.as_bytes()).expect(
                 &rt, "a run",
             );
             let text = csv_text(alloc, &series)?;
@@ -48,8 +47,7 @@ fn rows_become_records(rt: HostRuntime) -> Result<(), Fail> {
 #[test]
 fn a_series_can_be_read(rt: HostRuntime) {
     let alloc = rt.alloc();
-    let mut reader = Watched::new(LOW_AND_BACK.as_bytes());
-    let series = collect_series(&rt, alloc, &Open, 1, &mut reader).expect(&rt, "a run");
+    let series = collect_series(&rt, alloc, &Open, 1, LOW_AND_BACK.as_bytes()).expect(&rt, "a run");
     assert_eq!(rt; series.frames(), 100);
     assert_eq!(rt; series.names().len(), 2);
     assert_eq!(rt; series.rows().len(), 4);
@@ -70,8 +68,7 @@ fn causes_are_told(rt: HostRuntime) {
         ("{}", 1, RunError::Config(ConfigError::Missing)),
     ];
     for (config, workers, wanted) in refused {
-        let mut reader = Watched::new(config.as_bytes());
-        let outcome = collect_series(&rt, rt.alloc(), &Open, workers, &mut reader);
+        let outcome = collect_series(&rt, rt.alloc(), &Open, workers, config.as_bytes());
         assert_eq!(rt; outcome.err(), Some(wanted));
     }
 }

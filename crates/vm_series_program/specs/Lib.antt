@@ -1,1 +1,2 @@
-pub mod Statuses
+pub mod CommandLine
+pub mod Written

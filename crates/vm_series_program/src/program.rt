@@ -1,129 +1,124 @@
 //! From the words of the command line to the exit status.
-ghost use Rattle.std.specs.Prelude.{◌≡◌, ◌⊎◌, ◌<◌, IfErr, OnOk};
-ghost use Rattle.std.specs.Io.KnownBytes.{Appends, Keeps};
-ghost use Rattle.vm_series.specs.Csv.{csv_text};
+ghost use Rattle.std.specs.Prelude.{◌≡◌, ◌≢◌, ◌<◌, ◌≤◌, Bool, map, string_bytes};
+ghost use Rattle.std.specs.Io.KnownBytes.{Keeps};
+ghost use Rattle.std.specs.Process.{exit_status};
+ghost use Rattle.vm_command_line.specs.Statuses.{IsRefused};
 ghost use Rattle.vm_series.specs.Rows.{rows_of};
-ghost use Rattle.vm_sim.specs.declared.run_error.RunError.TheVariants.{Memory, Write};
-ghost use Rattle.vm_sim.specs.Run.{RunsConfig};
+ghost use Rattle.vm_series_program.specs.CommandLine.{AreTaken, wants_drawing};
+ghost use Rattle.vm_series_program.specs.Written.{StopsEarly, Writes};
+ghost use Rattle.vm_sim.specs.Run.{NewlyFailed, RunsConfig};
 
-use crate::complaints::{BAD_WORDS, complain, no_memory, usage};
-use crate::words;
-use clap::error::ErrorKind;
-use std::alloc::Global;
+use crate::complaints::complain;
+use crate::line::LINE;
+use crate::writing::write_run;
+use std::io;
 use std::process::ExitCode;
 use std::rt::Env;
 use std::thread::Threads;
-use std::{env, io};
-use vm_series::{Series, collect_series, csv_text};
-use vm_sim::{Open, RunError, Sink, Source, Watched, write_text};
+use vm_command_line::{DONE, Request};
+use vm_sim::{Sink, Source, Watched, read_text};
 
-/// The whole series was written.
-const DONE: u8 = 0;
-
-/// The program's name and the words behind it, or the status to end with.
-fn given_words(system: &(impl Env + Eprint + AllocGlobal)) -> Result<Vec<String>, u8>
-    ensures { IfErr result (λ status. 0 < status) }
-{
-    let args = match env::args(system) {
-        Ok(args) => args,
-        Err(error) if error.kind() == io::ErrorKind::OutOfMemory => return Err(no_memory(system)),
-        Err(_) => return Err(usage(system)),
-    };
-    args.collect::<Vec<String>>(system.alloc())
-        .map_err(|_| no_memory(system))
-}
-
-/// On how many threads the guests run, or the status to end with.
-fn workers(system: &(impl Env + Eprint + AllocGlobal)) -> Result<u32, u8>
-    ensures { IfErr result (λ status. 0 < status) }
-{
-    let words = given_words(system)?;
-    match words::workers(system.alloc(), words.as_slice()) {
-        Ok(workers) => Ok(workers),
-        Err(error) if error.kind() == ErrorKind::OutOfMemory => Err(no_memory(system)),
-        Err(error) => {
-            let _ = eprint!(system; "{error}");
-            Err(BAD_WORDS)
-        }
-    }
-}
-
-/// Writes a series.
-fn write_series<W: Sink>(alloc: Global, series: &Series, writer: &mut W) -> Result<(), RunError>
-    ensures bytes { OnOk result (Appends (W.contents writer.old) (W.contents writer.new) (csv_text series.now)) }
-    ensures cause { IfErr result (λ error. (error ≡ Memory) ⊎ (error ≡ Write)) }
-{
-    let text = csv_text(alloc, series)?;
-    write_text(writer, text.as_slice())?;
-    Ok(())
-}
-
-/// Writes a series, and gives the status to end with.
-fn finish<W: Sink>(system: &(impl Eprint + AllocGlobal), series: &Series, writer: &mut W) -> u8
-    ensures done { result ≡ 0 → Appends (W.contents writer.old) (W.contents writer.new) (csv_text series.now) }
-    ensures statuses { (result ≡ 0) ⊎ (result ≡ 3) }
-{
-    match write_series(system.alloc(), series, writer) {
-        Ok(()) => DONE,
-        Err(error) => complain(system, error),
-    }
-}
-
-/// Runs the configuration that the reader gives on so many threads, and gives the status to end with.
+// Does what was asked for, and gives the status to end with.
 fn run_on<RT: Threads + Sync, R: Source, W: Sink>(
     rt: &RT,
     system: &(impl Eprint + AllocGlobal),
-    workers: u32,
+    request: &Request,
     reader: &mut R,
     writer: &mut W,
 ) -> u8
+    requires { (1 ≤ request.now.workers) × (request.now.workers ≤ 64) }
     ensures done { result ≡ 0 → RunsConfig (R.remaining reader.old) (R.remaining reader.new)
-        (λ config. Appends (W.contents writer.old) (W.contents writer.new) (csv_text (rows_of config))) }
-    ensures refused { result ≡ 1 → Keeps (W.contents writer.old) (W.contents writer.new) }
+        (λ config. Writes (W.contents writer.old) (W.contents writer.new) request.now.has_flag (rows_of config)) }
+    ensures refused { result ≡ 1 → IsRefused (R.remaining reader.old) (R.remaining reader.new) }
+    ensures silent { result ≡ 1 → Keeps (W.contents writer.old) (W.contents writer.new) }
+    ensures taken { result ≢ 2 }
+    ensures stopped { result ≡ 3 → StopsEarly (R.remaining reader.old) (R.remaining reader.new)
+        (W.contents writer.old) (W.contents writer.new) request.now.has_flag }
+    ensures reader_failed { NewlyFailed (R.has_failed reader.old) (R.has_failed reader.new) → result ≡ 3 }
+    ensures writer_failed { NewlyFailed (W.has_failed writer.old) (W.has_failed writer.new) → result ≡ 3 }
+    ensures known { result ≤ 3 }
+{
+    let text = match read_text(system.alloc(), reader) {
+        Ok(text) => text,
+        Err(error) => return LINE.complain(system, error),
+    };
+    match write_run(rt, system.alloc(), request, &text, writer) {
+        Ok(()) => DONE,
+        Err(error) => complain(system, &text, error),
+    }
+}
+
+/// What [`status`] does, with these words in place of the system's. The first is the program's name.
+pub fn status_for<RT: Threads + Sync, R: Source, W: Sink>(
+    rt: &RT,
+    system: &(impl Eprint + AllocGlobal),
+    words: &[String],
+    reader: &mut R,
+    writer: &mut W,
+) -> u8
+    ensures done { result ≡ 0 → RunsConfig (R.remaining reader.old) (R.remaining reader.new) (λ config.
+        Writes (W.contents writer.old) (W.contents writer.new) (wants_drawing (map string_bytes words.now)) (rows_of config)) }
+    ensures refused { result ≡ 1 → IsRefused (R.remaining reader.old) (R.remaining reader.new) }
+    ensures silent { result ≡ 1 → Keeps (W.contents writer.old) (W.contents writer.new) }
     ensures unread { result ≡ 2 → Keeps (R.remaining reader.old) (R.remaining reader.new) }
     ensures unwritten { result ≡ 2 → Keeps (W.contents writer.old) (W.contents writer.new) }
+    ensures stopped { result ≡ 3 → StopsEarly (R.remaining reader.old) (R.remaining reader.new)
+        (W.contents writer.old) (W.contents writer.new) (wants_drawing (map string_bytes words.now)) }
+    ensures reader_failed { NewlyFailed (R.has_failed reader.old) (R.has_failed reader.new) → result ≡ 3 }
+    ensures writer_failed { NewlyFailed (W.has_failed writer.old) (W.has_failed writer.new) → result ≡ 3 }
+    ensures known { result ≤ 3 }
+    ensures taken { result < 2 → AreTaken (map string_bytes words.now) }
+    ensures untaken { result ≡ 2 → AreTaken (map string_bytes words.now) → ⊥ }
 {
-    match collect_series(rt, system.alloc(), &Open, workers, reader) {
-        Ok(series) => finish(system, &series, writer),
-        Err(error) => complain(system, error),
+    match LINE.request(system, words) {
+        Ok(request) => run_on(rt, system, &request, reader, writer),
+        Err(status) => status,
     }
 }
 
 /// Runs the configuration that the reader gives, writes what is seen of the host after each epoch to the writer, and gives the
 /// status to end with. `rt` starts the threads; the words come from `system`, and on its standard error is said what is wrong.
 ///
-/// | Status | Cause |
-/// |---|---|
-/// | 0 | all of it was written |
-/// | 1 | the configuration is refused; nothing was written |
-/// | 2 | the words are refused or ask for help; nothing was read or written |
-/// | 3 | reading or writing failed, or memory was refused |
+/// | Status | Cause | What was written |
+/// |---|---|---|
+/// | 0 | all was read, and it means a configuration | all of its run, as comma-separated values, or as a drawing where `--svg` is said |
+/// | 1 | all was read, and it means no configuration | nothing |
+/// | 2 | the words are refused or ask for help; nothing was read | nothing |
+/// | 3 | reading or writing failed, the input is too long, or memory was refused | a front of it, or nothing |
+///
+/// A reader or a writer that fails in this call, and had not failed before, is always answered by 3.
 pub fn status<RT: Threads + Sync, R: Source, W: Sink>(
     rt: &RT,
     system: &(impl Env + Eprint + AllocGlobal),
     reader: &mut R,
     writer: &mut W,
 ) -> u8
-    ensures done { result ≡ 0 → RunsConfig (R.remaining reader.old) (R.remaining reader.new)
-        (λ config. Appends (W.contents writer.old) (W.contents writer.new) (csv_text (rows_of config))) }
-    ensures refused { result ≡ 1 → Keeps (W.contents writer.old) (W.contents writer.new) }
+    ensures done { result ≡ 0 → (is_drawn : Bool) × RunsConfig (R.remaining reader.old) (R.remaining reader.new)
+        (λ config. Writes (W.contents writer.old) (W.contents writer.new) is_drawn (rows_of config)) }
+    ensures refused { result ≡ 1 → IsRefused (R.remaining reader.old) (R.remaining reader.new) }
+    ensures silent { result ≡ 1 → Keeps (W.contents writer.old) (W.contents writer.new) }
     ensures unread { result ≡ 2 → Keeps (R.remaining reader.old) (R.remaining reader.new) }
     ensures unwritten { result ≡ 2 → Keeps (W.contents writer.old) (W.contents writer.new) }
+    ensures stopped { result ≡ 3 → (is_drawn : Bool) × StopsEarly (R.remaining reader.old) (R.remaining reader.new)
+        (W.contents writer.old) (W.contents writer.new) is_drawn }
+    ensures reader_failed { NewlyFailed (R.has_failed reader.old) (R.has_failed reader.new) → result ≡ 3 }
+    ensures writer_failed { NewlyFailed (W.has_failed writer.old) (W.has_failed writer.new) → result ≡ 3 }
+    ensures known { result ≤ 3 }
 {
-    match workers(system) {
-        Ok(workers) => run_on(rt, system, workers, reader, writer),
+    match LINE.words(system) {
+        Ok(words) => status_for(rt, system, words.as_slice(), reader, writer),
         Err(status) => status,
     }
 }
 
 /// Runs the guests that a configuration on standard input names, and writes what is seen of the host after each epoch to standard
-/// output, as comma-separated values (RFC 4180).
+/// output, as comma-separated values (RFC 4180) or as a drawing (SVG).
 ///
-/// The words are those of `vmseries [--workers N]`: on how many threads the guests run, 1 to 64, and 1 where that isn't said. They are
-/// read before the input. The exit code is that of [`status`].
-pub fn vmseries(
-    rt: &(impl Env + Input + Print + Eprint + AllocGlobal + Threads + Sync),
-) -> ExitCode {
+/// The words are those of `vmseries [--svg] [--workers N]`: whether a drawing is wanted, and on how many threads the guests run, 1 to
+/// 64, and 1 where that isn't said. They are read before the input. The exit code is that of [`status`].
+pub fn vmseries(rt: &(impl Env + Input + Print + Eprint + AllocGlobal + Threads + Sync)) -> ExitCode
+    ensures known { exit_status result ≤ 3 }
+{
     let mut reader = Watched::new(rt.reader());
     let mut writer = Watched::new(io::writer(rt));
     ExitCode::from(status(rt, rt, &mut reader, &mut writer))

@@ -8,7 +8,9 @@ use std::io;
 use std::io::{Error, ErrorKind, Read, Write};
 use std::rt::Env;
 use std::test::Fail;
-use vm_sim::Watched;
+use vm_charts::svg_text;
+use vm_series::{collect_series, csv_text};
+use vm_sim::{Open, Watched};
 
 // A system with these words, which keeps what is said on standard error.
 #[derive(Drop)]
@@ -132,30 +134,53 @@ fn a_failed_end_is_told(rt: HostRuntime) {
 }
 
 #[test]
-fn a_refused_configuration_is_told(rt: HostRuntime) {
+fn a_refused_configuration_is_told_with_its_place(rt: HostRuntime) {
     let alloc = rt.alloc();
-    let system = with_words(alloc, &["vmseries", "--workers", "2"]);
-    let mut held = Vec::new(alloc);
-    let ended = status(
-        &rt,
-        &system,
-        &mut Watched::new("{}".as_bytes()),
-        &mut Watched::new(&mut held),
-    );
-    assert_eq!(rt; ended, 1);
-    assert_eq!(rt;
-        system.said.into_inner().as_str(),
-        "vmseries: a required key is absent\n"
-    );
-    assert_eq!(rt; held.len(), 0);
+    let refused = [
+        ("", "vmseries: the text: not a JSON text\n"),
+        ("[]", "vmseries: the text: not an object\n"),
+        (
+            "{}",
+            "vmseries: key \"version\": a required key is absent\n",
+        ),
+        (
+            "{\"version\":1,\"frames\":100,\"epochs\":1,\"guests\":[{\"name\":\"a\",\"size\":4,\"min\":4},\
+{\"name\":\"b\",\"size\":4,\"min\":5}]}",
+            "vmseries: guest 1, key \"min\": a value is outside its key's range\n",
+        ),
+        (
+            "{\"version\":1,\"frames\":100,\"epochs\":1,\"guests\":[{\"name\":\"web\",\"size\":4,\"min\":4,\
+\"trace\":[\"i\",\"w 0 0 f\"]}]}",
+            "vmseries: guest 0, key \"trace\": step 1: not hexadecimal bytes\n",
+        ),
+        (
+            "{\"version\":1,\"frames\":100,\"epochs\":1,\"guests\":[],\
+\"commands\":[{\"at\":0,\"line\":\"x\"},{\"at\":\"0\",\"line\":\"x\"}]}",
+            "vmseries: command 1, key \"at\": a value is not of its key's kind\n",
+        ),
+    ];
+    for (config, said) in refused {
+        let system = with_words(alloc, &["vmseries", "--workers", "2"]);
+        let mut held = Vec::new(alloc);
+        let ended = status(
+            &rt,
+            &system,
+            &mut Watched::new(config.as_bytes()),
+            &mut Watched::new(&mut held),
+        );
+        assert_eq!(rt; ended, 1, "{config}");
+        assert_eq!(rt; system.said.into_inner().as_str(), said, "{config}");
+        assert_eq!(rt; held.len(), 0, "{config}");
+    }
 }
 
 #[test]
 fn words_are_refused_before_the_input_is_read(rt: HostRuntime) {
     let alloc = rt.alloc();
-    let refused: [&[&str]; 4] = [
+    let refused: [&[&str]; 5] = [
         &["vmseries", "--workers", "0"],
         &["vmseries", "--workers"],
+        &["vmseries", "--svg=x"],
         &["vmseries", "--help"],
         &["vmseries", "x"],
     ];
@@ -196,6 +221,32 @@ fn the_series_is_written(rt: HostRuntime) -> Result<(), Fail> {
 0,high,10,,,,,,,,,,\r\n"
                 .as_bytes()
         );
+    }
+    Ok(())
+}
+
+#[test]
+fn a_drawing_is_written(rt: HostRuntime) -> Result<(), Fail> {
+    let alloc = rt.alloc();
+    let series = collect_series(&rt, alloc, &Open, 1, NO_GUESTS.as_bytes()).expect(&rt, "a run");
+    let drawing = svg_text(alloc, &series)?;
+    let listed = csv_text(alloc, &series)?;
+    for words in [
+        &["vmseries", "--svg"] as &[&str],
+        &["vmseries", "--workers", "2", "--svg"],
+    ] {
+        let system = with_words(alloc, words);
+        let mut held = Vec::new(alloc);
+        let ended = status(
+            &rt,
+            &system,
+            &mut Watched::new(NO_GUESTS.as_bytes()),
+            &mut Watched::new(&mut held),
+        );
+        assert_eq!(rt; ended, 0);
+        assert_eq!(rt; system.said.into_inner().as_str(), "");
+        assert_eq!(rt; held.as_slice(), drawing.as_slice());
+        assert!(rt; held.as_slice() != listed.as_slice());
     }
     Ok(())
 }

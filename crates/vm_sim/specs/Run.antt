@@ -43,10 +43,18 @@ module _ (read_old read_new written_old written_new : Option (List ℕ)) where
   Fails limit read_failed write_failed Write = (write_failed ≡ true) × WritesFront
   Fails limit read_failed write_failed Memory = WritesFront ⊎ Keeps written_old written_new
 
--- each error of a run whose report isn't written has its cause
-abbrev pub FailsUnwritten : (old new : Option (List ℕ)) → (limit : ℕ) → (read_failed : Bool) → RunError → Type 0
-FailsUnwritten old new limit read_failed Workers = Keeps old new
-FailsUnwritten old new limit read_failed Read = (read_failed ≡ true) ⊎ IfSome old (λ bytes. limit < length bytes)
-FailsUnwritten old new limit read_failed (Config e) = TakesAll old new (λ input. config_of input ≡ Err e)
-FailsUnwritten old new limit read_failed Write = ⊥
-FailsUnwritten old new limit read_failed Memory = Unit {0}
+-- why a text was not read: the reader failed, or had more than the limit, or memory was refused
+abbrev pub FailsToRead : (old : Option (List ℕ)) → (limit : ℕ) → (read_failed : Bool) → RunError → Type 0
+FailsToRead old limit read_failed Workers = ⊥
+FailsToRead old limit read_failed Read = (read_failed ≡ true) ⊎ IfSome old (λ bytes. limit < length bytes)
+FailsToRead old limit read_failed (Config e) = ⊥
+FailsToRead old limit read_failed Write = ⊥
+FailsToRead old limit read_failed Memory = Unit {0}
+
+-- why a text that was read was not run: it means no configuration, or memory was refused
+abbrev pub FailsOnText : List ℕ → RunError → Type 0
+FailsOnText text Workers = Unit {0}
+FailsOnText text Read = ⊥
+FailsOnText text (Config e) = config_of text ≡ Err e
+FailsOnText text Write = ⊥
+FailsOnText text Memory = Unit {0}

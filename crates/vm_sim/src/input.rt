@@ -1,8 +1,11 @@
 // Reading all of a source, up to a limit.
-ghost use Rattle.std.specs.Prelude.{◌≡◌, ◌⊎◌, ◌<◌, ◌≤◌, ◌+◌, ◌^◌, ℕ, List, length, IfOk, IfSome, OnOk, Err, vec_len, true};
+ghost use Rattle.std.specs.Prelude.{◌≡◌, ◌⊎◌, ◌<◌, ◌≤◌, ◌+◌, ◌^◌, ℕ, List, length, IfErr, IfOk, IfSome, OnOk, Err, vec_len, true};
 ghost use Rattle.std.specs.Io.KnownBytes.{Consumes, IsAtEnd};
 ghost use Rattle.vm_sim.specs.declared.input.InputError.TheVariants.{Failed, TooLong};
+ghost use Rattle.vm_sim.specs.declared.run_error.RunError.TheVariants.{Read};
+ghost use Rattle.vm_sim.specs.Run.{FailsToRead, NewlyFailed};
 
+use crate::run_error::RunError;
 use crate::stream::Source;
 use std::alloc::Global;
 
@@ -18,12 +21,11 @@ pub(crate) enum InputError {
 
 const CHUNK: usize = 4096;
 
+// The longest input.
+const MAX_INPUT: usize = 16_777_216;
+
 // Reads to the end, at most `limit` bytes and one more.
-pub(crate) fn read_input<R: Source>(
-    alloc: Global,
-    reader: &mut R,
-    limit: usize,
-) -> Result<Vec<u8>, InputError>
+fn read_input<R: Source>(alloc: Global, reader: &mut R, limit: usize) -> Result<Vec<u8>, InputError>
     requires { limit < 2 ^ 32 }
     ensures bytes { IfOk result (λ input. Consumes (R.remaining reader.old) (R.remaining reader.new) input.items) }
     ensures end { OnOk result (IsAtEnd (R.remaining reader.new)) }
@@ -48,4 +50,20 @@ pub(crate) fn read_input<R: Source>(
         }
     }
     Err(InputError::TooLong)
+}
+
+/// Reads a text to the reader's end, as [`run`](crate::run) does.
+///
+/// At most 16777216 bytes are read, and one more. The answer is [`RunError::Read`] where the reader failed or more came, and
+/// [`RunError::Memory`] where memory was refused.
+pub fn read_text<R: Source>(alloc: Global, reader: &mut R) -> Result<Vec<u8>, RunError>
+    ensures text { IfOk result (λ text. Consumes (R.remaining reader.old) (R.remaining reader.new) text.items) }
+    ensures end { OnOk result (IsAtEnd (R.remaining reader.new)) }
+    ensures failed { IfErr result (FailsToRead (R.remaining reader.old) 16777216 (R.has_failed reader.new)) }
+    ensures reader_failed { NewlyFailed (R.has_failed reader.old) (R.has_failed reader.new) → result ≡ Err Read }
+    ensures at_most { (taken : List ℕ) × Consumes (R.remaining reader.old) (R.remaining reader.new) taken
+        × (length taken ≤ 16777217) }
+{
+    let text = read_input(alloc, reader, MAX_INPUT)?;
+    Ok(text)
 }

@@ -24,6 +24,7 @@ mod stream;
 #[cfg(test)]
 mod tests;
 
+pub use input::read_text;
 pub use law::{law_migration, law_runs};
 pub use output::{WriteFailed, write_text};
 pub use report::{boundary_text, end_text, epoch_text};

@@ -13,7 +13,7 @@ ghost use Rattle.vm_sim.specs.Streams.{AppendsFront};
 
 use crate::agenda::{Agenda, lines_for};
 use crate::crew::Crew;
-use crate::input::read_input;
+use crate::input::read_text;
 use crate::law::law_runs;
 use crate::output::write_text;
 use crate::report::{boundary_text, end_text, epoch_text};
@@ -23,9 +23,6 @@ use std::alloc::Global;
 use std::thread::Threads;
 use vm_config::{Config, read_config};
 use vm_host::{Boundary, Gate, Host, HostError, Lines};
-
-// The longest input.
-pub(crate) const MAX_INPUT: usize = 16_777_216;
 
 const MAX_WORKERS: u32 = 64;
 
@@ -226,7 +223,7 @@ pub fn run<RT: Threads + Sync, G: Gate + Sync, R: Source, W: Sink>(
     }
     law_runs();
     let crew = Crew { rt, gate, workers };
-    let input = read_input(alloc, reader, MAX_INPUT)?;
+    let input = read_text(alloc, reader)?;
     let config = read_config(alloc, &input)?;
     simulate(alloc, &crew, config, writer)
 }

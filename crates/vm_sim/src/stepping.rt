@@ -2,15 +2,13 @@
 ghost use Rattle.std.specs.Prelude.{◌≡◌, ◌≢◌, ◌+◌, ◌<◌, ◌≤◌, ℕ, suc, IfOk, IfErr, OnOk, Err};
 ghost use Rattle.vm_config.specs.declared.config.Config.{Config as Configuration};
 ghost use Rattle.vm_reclaim.specs.Policy.{policy_of};
-ghost use Rattle.vm_sim.specs.declared.run_error.RunError.TheVariants.{Memory, Read, Workers};
+ghost use Rattle.vm_sim.specs.declared.run_error.RunError.TheVariants.{Memory, Workers};
 ghost use Rattle.vm_sim.specs.Course.{lines_for, next_world};
-ghost use Rattle.vm_sim.specs.Run.{FailsUnwritten, NewlyFailed, RunsConfig};
+ghost use Rattle.vm_sim.specs.Run.{FailsOnText, MeansConfig};
 
 use crate::agenda::{Agenda, lines_for};
-use crate::input::read_input;
 use crate::run_error::RunError;
-use crate::simulation::{MAX_INPUT, boundary};
-use crate::stream::Source;
+use crate::simulation::boundary;
 use std::alloc::Global;
 use std::marker::Model;
 use std::thread::Threads;
@@ -64,20 +62,16 @@ impl SteppedRun {
         }
     }
 
-    /// Reads a configuration to the reader's end: its run before the first epoch.
+    /// The run of the configuration that a text is, before its first epoch.
     ///
-    /// At most 16777216 bytes are read, and one more. The answer is [`RunError::Read`] where the reader failed or more came,
-    /// [`RunError::Config`] with the first fault of the configuration, and [`RunError::Memory`] where memory was refused.
-    pub fn read<R: Source>(alloc: Global, reader: &mut R) -> Result<Self, RunError>
-        ensures start { IfOk result (λ run. RunsConfig (R.remaining reader.old) (R.remaining reader.new)
-            (λ config. run ≡ run_after config 0)) }
-        ensures failed { IfErr result (FailsUnwritten (R.remaining reader.old) (R.remaining reader.new)
-            16777216 (R.has_failed reader.new)) }
-        ensures reader_failed { NewlyFailed (R.has_failed reader.old) (R.has_failed reader.new) → result ≡ Err Read }
+    /// The answer is [`RunError::Config`] with the first fault of the configuration, and [`RunError::Memory`] where memory was
+    /// refused.
+    pub fn of_text(alloc: Global, text: &[u8]) -> Result<Self, RunError>
+        ensures start { IfOk result (λ run. MeansConfig (λ config. run ≡ run_after config 0) text.now) }
+        ensures failed { IfErr result (FailsOnText text.now) }
         ensures workers { result ≢ Err Workers }
     {
-        let input = read_input(alloc, reader, MAX_INPUT)?;
-        let config = read_config(alloc, &input)?;
+        let config = read_config(alloc, text)?;
         SteppedRun::new(alloc, config)
     }
 

@@ -1,5 +1,5 @@
 //! Runs the guests that a configuration on standard input names, and writes what is seen of the host after each epoch to standard
-//! output: `vmseries [--workers N]`.
+//! output: `vmseries [--svg] [--workers N]`.
 #![tactic(auto)]
 
 use std::process::ExitCode;

@@ -3,7 +3,7 @@ use super::setup::{
     FIRST_READ, FIRST_READ_REPORT, Given, LOW_AND_BACK, LOW_AND_BACK_REPORT, Narrow,
     SWAP_AND_STALL, fault, fault_of, text, with_room,
 };
-use crate::{ConfigError, Open, RunError, Sink, Source, Watched, run};
+use crate::{ConfigError, Open, RunError, Sink, Source, Watched, read_text, run};
 use std::io;
 use std::io::{Error, ErrorKind, Read, Write};
 use std::test::Fail;
@@ -41,6 +41,21 @@ fn a_failed_read_writes_nothing(rt: HostRuntime) {
         assert!(rt; reader.failed());
         assert_eq!(rt; writer.held.len(), 0);
     }
+}
+
+#[test]
+fn a_text_is_read_to_its_end(rt: HostRuntime) {
+    let alloc = rt.alloc();
+    let bytes = LOW_AND_BACK.as_bytes();
+    let read = read_text(alloc, &mut text(bytes)).expect(&rt, "a text");
+    assert_eq!(rt; read.as_slice(), bytes);
+    let mut reader = Given {
+        bytes,
+        spaces: 0,
+        ends: false,
+        has_failed: false,
+    };
+    assert_eq!(rt; read_text(alloc, &mut reader).err(), Some(RunError::Read));
 }
 
 const MAX_INPUT: usize = 16_777_216;

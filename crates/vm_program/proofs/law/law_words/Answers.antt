@@ -1,7 +1,7 @@
 use Rattle.std.proofs.Common.{◌≡◌, List, [], ◌∷◌, refl}
 use Rattle.clap.specs.declared.error.kind.ErrorKind.{ErrorKind}
 use Rattle.clap.proofs.OnLiterals.{clap_on_literals}
-use Rattle.vm_program.specs.CommandLine.{AreTaken, command_line, workers_option}
+use Rattle.vm_command_line.specs.Words.{AreTaken, command_line, workers_option}
 use Rattle.vm_program.proofs.law.law_words.Goals as goal
 
 -- a list with a fault is not empty

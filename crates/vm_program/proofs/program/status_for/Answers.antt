@@ -7,6 +7,6 @@ returns-in-Err-run-clause-refused g c =
 
 pub returns-in-Err-run-clause-untaken : goal.returns-in-Err-run-clause-untaken
 returns-in-Err-run-clause-untaken g c = λ two taken.
-    let number = c.in-Ok.ensures.number in
-    not-workers c.run.result c.in-Ok.workers c.complain.result c.in-Err-run.error c.in-Err-run.is c.complain.ensures
+    let number = c.in-Ok.ensures.workers in
+    not-workers c.run.result c.in-Ok.request.workers c.complain.result c.in-Err-run.error c.in-Err-run.is c.complain.ensures
     c.run.ensures.workers.0 number.0 number.1 two

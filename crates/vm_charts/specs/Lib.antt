@@ -1,0 +1,4 @@
+pub mod Samples
+pub mod Curves
+pub mod Texts
+pub mod Charts

@@ -1,0 +1,146 @@
+// What is seen of a host epoch by epoch, as numbers.
+ghost use Rattle.std.specs.Prelude.{◌≡◌, ◌<◌, ◌≤◌, ℕ, is_some, IfOk, IfSome};
+ghost use Rattle.std.specs.List.{list_any};
+ghost use Rattle.vm_plan.specs.State.{rank};
+ghost use Rattle.vm_charts.specs.Samples.{greatest, pages_in, pages_of, sample, samples, total};
+ghost use Rattle.vm_charts.specs.declared.samples.Measure.TheVariants.{Target};
+
+use std::alloc::{AllocError, Global};
+use vm_host::{GuestView, State};
+use vm_series::EpochRow;
+
+// Where a guest's pages are that aren't in its memory.
+#[derive(Clone, Copy)]
+pub(crate) enum Pages {
+    SwappedOut,
+    Ballooned,
+}
+
+// What a curve shows.
+#[derive(Clone, Copy)]
+pub(crate) enum Measure {
+    // the state of the host, from 0, the lowest
+    State,
+    // the free frames of the host
+    Free,
+    // the target of the guest at a position
+    Target(usize),
+    // pages of all running guests
+    Total(Pages),
+}
+
+fn rank(state: State) -> u64
+    ensures { result ≡ rank state }
+{
+    match state {
+        State::Low => 0,
+        State::Hard => 1,
+        State::Soft => 2,
+        State::High => 3,
+    }
+}
+
+fn pages_of(pages: Pages, view: &GuestView) -> u64
+    ensures { result ≡ pages_of pages view.now }
+{
+    match pages {
+        Pages::SwappedOut => u64::from(view.swapped),
+        Pages::Ballooned => u64::from(view.balloon),
+    }
+}
+
+fn pages_in(pages: Pages, view: &Option<GuestView>) -> u64
+    ensures { result ≡ pages_in pages view.now }
+{
+    match view {
+        Some(view) => pages_of(pages, view),
+        None => 0,
+    }
+}
+
+// The sum, if it is below 2^64: each guest has fewer than 2^32 pages.
+fn total(pages: Pages, views: &[Option<GuestView>]) -> Option<u64>
+    ensures { IfSome result (λ sum. sum ≡ total pages views.now) }
+{
+    let mut sum: u64 = 0;
+    for view in views {
+        sum = sum.checked_add(pages_in(pages, view))?;
+    }
+    Some(sum)
+}
+
+fn sample(row: &EpochRow, measure: Measure) -> Result<Option<u64>, AllocError>
+    ensures { IfOk result (λ value. value ≡ sample measure row.now) }
+{
+    match measure {
+        Measure::State => Ok(Some(rank(row.state()))),
+        Measure::Free => Ok(Some(u64::from(row.free()))),
+        Measure::Target(position) => Ok(row.view(position).map(|view| u64::from(view.target))),
+        Measure::Total(pages) => match total(pages, row.views()) {
+            Some(sum) => Ok(Some(sum)),
+            None => Err(AllocError),
+        },
+    }
+}
+
+// A value for each epoch, or none where the guest that is asked for doesn't run.
+pub(crate) fn samples(
+    alloc: Global,
+    rows: &[EpochRow],
+    measure: Measure,
+) -> Result<Vec<Option<u64>>, AllocError>
+    ensures { IfOk result (λ values. values.items ≡ samples measure rows.now) }
+{
+    let mut values = Vec::new(alloc);
+    for row in rows {
+        let value = sample(row, measure)?;
+        values.push(value)?;
+    }
+    Ok(values)
+}
+
+// The greatest value, or 0.
+pub(crate) fn greatest(values: &[Option<u64>]) -> u64
+    ensures { result ≡ greatest values.now }
+{
+    let mut most: u64 = 0;
+    for value in values {
+        most = most.max(value.unwrap_or(0));
+    }
+    most
+}
+
+// The greatest value of a measure.
+pub(crate) fn greatest_of(
+    alloc: Global,
+    rows: &[EpochRow],
+    measure: Measure,
+) -> Result<u64, AllocError>
+    ensures { IfOk result (λ most. most ≡ greatest (samples measure rows.now)) }
+{
+    let values = samples(alloc, rows, measure)?;
+    Ok(greatest(values.as_slice()))
+}
+
+// The greatest target of the guests before a position.
+pub(crate) fn greatest_target(
+    alloc: Global,
+    rows: &[EpochRow],
+    positions: usize,
+) -> Result<u64, AllocError>
+    ensures { IfOk result (λ most. (position : ℕ) → position < positions
+        → greatest (samples (Target position) rows.now) ≤ most) }
+{
+    let mut most = 0;
+    for position in 0..positions {
+        most = greatest_of(alloc, rows, Measure::Target(position))?.max(most);
+    }
+    Ok(most)
+}
+
+// Whether there is any value.
+pub(crate) fn has_values(values: &[Option<u64>]) -> bool
+    ensures { result ≡ list_any is_some values.now }
+{
+    values.iter().any(|value| value.is_some())
+}

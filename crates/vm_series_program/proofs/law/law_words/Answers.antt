@@ -1,0 +1,41 @@
+use Rattle.std.proofs.Common.{◌≡◌, List, [], ◌∷◌, refl}
+use Rattle.clap.specs.declared.error.kind.ErrorKind.{ErrorKind}
+use Rattle.clap.proofs.OnLiterals.{clap_on_literals}
+use Rattle.vm_command_line.specs.Words.{AreTaken, command_line, flag_option, has_flag, workers_option}
+use Rattle.vm_series_program.proofs.law.law_words.Goals as goal
+
+-- a list with a fault is not empty
+has-fault : (kind : ErrorKind) (kinds : List ErrorKind) → kind ∷ kinds ≡ [] → ⊥
+has-fault kind kinds none = absurd cc
+
+pub returns-clause-none : goal.returns-clause-none
+unfolding clap_on_literals AreTaken command_line flag_option has_flag workers_option
+returns-clause-none c = (refl, refl)
+
+pub returns-clause-svg : goal.returns-clause-svg
+unfolding clap_on_literals AreTaken command_line flag_option has_flag workers_option
+returns-clause-svg c = (refl, refl)
+
+pub returns-clause-both : goal.returns-clause-both
+unfolding clap_on_literals AreTaken command_line flag_option has_flag workers_option
+returns-clause-both c = (refl, refl)
+
+pub returns-clause-workers : goal.returns-clause-workers
+unfolding clap_on_literals AreTaken command_line flag_option has_flag workers_option
+returns-clause-workers c = (refl, refl)
+
+pub returns-clause-twice : goal.returns-clause-twice
+unfolding clap_on_literals AreTaken command_line flag_option has_flag workers_option
+returns-clause-twice c = has-fault _ _
+
+pub returns-clause-value : goal.returns-clause-value
+unfolding clap_on_literals AreTaken command_line flag_option has_flag workers_option
+returns-clause-value c = has-fault _ _
+
+pub returns-clause-more : goal.returns-clause-more
+unfolding clap_on_literals AreTaken command_line flag_option has_flag workers_option
+returns-clause-more c = has-fault _ _
+
+pub returns-clause-help : goal.returns-clause-help
+unfolding clap_on_literals AreTaken command_line flag_option has_flag workers_option
+returns-clause-help c = has-fault _ _
