@@ -8,11 +8,9 @@ use std::test::Fail;
 use std::thread::Threads;
 use vm_host::Open;
 use vm_series::collect_series;
-use vm_sim::Watched;
 
 fn drawn<R: Abort + Threads + Sync>(rt: &R, alloc: Global, config: &str) -> String {
-    let mut reader = Watched::new(config.as_bytes());
-    let series = collect_series(rt, alloc, &Open, 1, &mut reader).expect(rt, "a run");
+    let series = collect_series(rt, alloc, &Open, 1, config.as_bytes()).expect(rt, "a run");
     let text = svg_text(alloc, &series).expect(rt, "charts");
     String::from_utf8(text).expect(rt, "a text")
 }
