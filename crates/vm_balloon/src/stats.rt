@@ -1,4 +1,4 @@
-ghost use Rattle.std.specs.Prelude.{◌≡◌, Some, if◌then◌else◌};
+ghost use Rattle.std.specs.Prelude.{◌≡◌};
 
 use crate::virtio::{stat_count, stat_entry};
 
@@ -46,30 +46,24 @@ impl Stats {
         let mut stats = Stats::default();
         for i in 0..stat_count(bytes) {
             let (tag, value) = stat_entry(bytes, i);
-            stats = stats.with_entry(tag, value);
+            stats.set(tag, value);
         }
         stats
     }
 
-    // The numbers once one more entry was read.
-    fn with_entry(self, tag: u16, value: u64) -> Self
-        ensures { result ≡ with_entry self (tag, value) }
+    // One more entry was read: its value stands in the place of its tag.
+    fn set(&mut self, tag: u16, value: u64)
+        ensures { self.new ≡ with_entry self.old (tag, value) }
     {
-        Stats {
-            swap_in: value_if(tag == SWAP_IN, value, self.swap_in),
-            swap_out: value_if(tag == SWAP_OUT, value, self.swap_out),
-            major_faults: value_if(tag == MAJOR_FAULTS, value, self.major_faults),
-            minor_faults: value_if(tag == MINOR_FAULTS, value, self.minor_faults),
-            free: value_if(tag == FREE, value, self.free),
-            total: value_if(tag == TOTAL, value, self.total),
-            available: value_if(tag == AVAILABLE, value, self.available),
+        match tag {
+            SWAP_IN => self.swap_in = Some(value),
+            SWAP_OUT => self.swap_out = Some(value),
+            MAJOR_FAULTS => self.major_faults = Some(value),
+            MINOR_FAULTS => self.minor_faults = Some(value),
+            FREE => self.free = Some(value),
+            TOTAL => self.total = Some(value),
+            AVAILABLE => self.available = Some(value),
+            _ => {}
         }
     }
-}
-
-// The value, if it counts, or else what there was before.
-fn value_if(counts: bool, value: u64, before: Option<u64>) -> Option<u64>
-    ensures { result ≡ (if counts then Some value else before) }
-{
-    if counts { Some(value) } else { before }
 }

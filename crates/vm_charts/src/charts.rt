@@ -311,7 +311,7 @@ fn picture_of(alloc: Global, series: &Series) -> Result<Picture, AllocError>
 /// where no value is above t; both are rounded down. All is as it stands after the epoch. A curve is told by its dashes and by
 /// its number, so that black and white are enough. A page and a frame have 4096 bytes.
 ///
-/// [`AllocError`] comes where memory was refused, and where pages of all guests add up to 2^64.
+/// [`AllocError`] comes only where memory was refused.
 pub fn svg_text(alloc: Global, series: &Series) -> Result<Vec<u8>, AllocError>
     ensures { IfOk result (λ text. Draws series.now text.items) }
 {

@@ -1,5 +1,5 @@
 // What is seen of a host epoch by epoch, as numbers.
-ghost use Rattle.std.specs.Prelude.{◌≡◌, ◌<◌, ◌≤◌, ℕ, is_some, IfOk, IfSome};
+ghost use Rattle.std.specs.Prelude.{◌≡◌, ◌<◌, ◌≤◌, ℕ, is_some, IfOk};
 ghost use Rattle.std.specs.List.{list_any};
 ghost use Rattle.vm_plan.specs.State.{rank};
 ghost use Rattle.vm_charts.specs.Samples.{greatest, pages_in, pages_of, sample, samples, total};
@@ -40,16 +40,16 @@ fn rank(state: State) -> u64
     }
 }
 
-fn pages_of(pages: Pages, view: &GuestView) -> u64
+fn pages_of(pages: Pages, view: &GuestView) -> u32
     ensures { result ≡ pages_of pages view.now }
 {
     match pages {
-        Pages::SwappedOut => u64::from(view.swapped),
-        Pages::Ballooned => u64::from(view.balloon),
+        Pages::SwappedOut => view.swapped,
+        Pages::Ballooned => view.balloon,
     }
 }
 
-fn pages_in(pages: Pages, view: &Option<GuestView>) -> u64
+fn pages_in(pages: Pages, view: &Option<GuestView>) -> u32
     ensures { result ≡ pages_in pages view.now }
 {
     match view {
@@ -58,28 +58,26 @@ fn pages_in(pages: Pages, view: &Option<GuestView>) -> u64
     }
 }
 
-// The sum, if it is below 2^64: each guest has fewer than 2^32 pages.
-fn total(pages: Pages, views: &[Option<GuestView>]) -> Option<u64>
-    ensures { IfSome result (λ sum. sum ≡ total pages views.now) }
+// The sum is far below 2^64: a row shows at most 256 guests, each of fewer than 2^32 pages.
+fn total(pages: Pages, row: &EpochRow) -> u64
+    ensures { result ≡ total pages row.now.views }
 {
+    let views = row.views();
     let mut sum: u64 = 0;
     for view in views {
-        sum = sum.checked_add(pages_in(pages, view))?;
+        sum += u64::from(pages_in(pages, view));
     }
-    Some(sum)
+    sum
 }
 
-fn sample(row: &EpochRow, measure: Measure) -> Result<Option<u64>, AllocError>
-    ensures { IfOk result (λ value. value ≡ sample measure row.now) }
+fn sample(row: &EpochRow, measure: Measure) -> Option<u64>
+    ensures { result ≡ sample measure row.now }
 {
     match measure {
-        Measure::State => Ok(Some(rank(row.state()))),
-        Measure::Free => Ok(Some(u64::from(row.free()))),
-        Measure::Target(position) => Ok(row.view(position).map(|view| u64::from(view.target))),
-        Measure::Total(pages) => match total(pages, row.views()) {
-            Some(sum) => Ok(Some(sum)),
-            None => Err(AllocError),
-        },
+        Measure::State => Some(rank(row.state())),
+        Measure::Free => Some(u64::from(row.free())),
+        Measure::Target(position) => row.view(position).map(|view| u64::from(view.target)),
+        Measure::Total(pages) => Some(total(pages, row)),
     }
 }
 
@@ -93,8 +91,7 @@ pub(crate) fn samples(
 {
     let mut values = Vec::new(alloc);
     for row in rows {
-        let value = sample(row, measure)?;
-        values.push(value)?;
+        values.push(sample(row, measure))?;
     }
     Ok(values)
 }

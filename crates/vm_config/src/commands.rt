@@ -2,7 +2,7 @@
 ghost use Rattle.std.specs.Prelude.{◌≡◌, [], map, codes};
 ghost use Rattle.std.specs.List.{list_all};
 ghost use Rattle.serde_json.specs.Find.{get};
-ghost use Rattle.serde_json.specs.View.{view};
+ghost use Rattle.vm_json.specs.View.{view};
 ghost use Rattle.vm_config.specs.Located.{command_at, commands_at};
 ghost use Rattle.vm_config.specs.Outcomes.{Answers};
 ghost use Rattle.vm_config.specs.Places.{IsOrLacksMemory};
@@ -13,8 +13,8 @@ use crate::fault::{Fault, at};
 use crate::keys::{number, text};
 use crate::place::{Key, Part};
 use crate::schedule::{Schedule, Scheduled};
-use serde_json::Value;
 use std::alloc::Global;
+use vm_json::Value;
 
 const MAX_AT: u64 = 9999;
 
@@ -27,7 +27,7 @@ fn are_line_bytes(bytes: &[u8]) -> bool
 }
 
 // A line of 1 to 256 printable characters of ASCII and spaces.
-fn line(object: &Value) -> Result<&str, ConfigError>
+fn line<'a>(object: &Value<'a>) -> Result<&'a str, ConfigError>
     ensures { Answers result (λ s. s.now) (line_in (get (codes "line") (view object.now))) }
 {
     let line = text(object, "line")?;
@@ -38,7 +38,7 @@ fn line(object: &Value) -> Result<&str, ConfigError>
 }
 
 // The command of this number.
-fn command(alloc: Global, place: usize, object: &Value) -> Result<Scheduled, Fault>
+fn command(alloc: Global, place: usize, object: &Value<'_>) -> Result<Scheduled, Fault>
     ensures { IsOrLacksMemory result (command_at place (view object.now)) }
 {
     let part = Part::Command(place);
@@ -49,7 +49,7 @@ fn command(alloc: Global, place: usize, object: &Value) -> Result<Scheduled, Fau
 }
 
 // The commands, one by one.
-pub(crate) fn commands(alloc: Global, objects: &[Value]) -> Result<Schedule, Fault>
+pub(crate) fn commands(alloc: Global, objects: &[Value<'_>]) -> Result<Schedule, Fault>
     ensures { IsOrLacksMemory result (commands_at (map view objects.now) []) }
 {
     let mut commands = Schedule::new(alloc);

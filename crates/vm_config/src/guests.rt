@@ -1,7 +1,7 @@
 // The guests of a configuration.
 ghost use Rattle.std.specs.Prelude.{◌≡◌, ◌≤◌, ◌<◌, ◌++◌, ◌∷◌, [], map, codes, length, IfOk, IfErr, OnOk, Err, None, vec_len};
 ghost use Rattle.serde_json.specs.Find.{get};
-ghost use Rattle.serde_json.specs.View.{view};
+ghost use Rattle.vm_json.specs.View.{view};
 ghost use Rattle.vm_guest.specs.Config.{IsWithinLimits};
 ghost use Rattle.vm_domains.specs.Domains.{position_of};
 ghost use Rattle.vm_config.specs.Guests.{no_guests, with_guest};
@@ -21,10 +21,10 @@ use crate::names::is_name;
 use crate::place::{Key, Part};
 use crate::trace::trace;
 use crate::version::Limits;
-use serde_json::Value;
 use std::alloc::{AllocError, Global};
 use vm_domains::Domains;
 use vm_guest::GuestSpec;
+use vm_json::Value;
 
 const MAX_SHARES: u64 = 1_000_000;
 
@@ -46,8 +46,8 @@ const MAX_TRACE: usize = 1_000_000;
 
 // A guest by its name, as it is set up, and whether it starts by itself.
 #[derive(Drop)]
-struct Named<'v> {
-    name: &'v str,
+struct Named<'a> {
+    name: &'a str,
     spec: GuestSpec,
     autostart: bool,
 }
@@ -60,7 +60,7 @@ pub(crate) struct GuestList {
 }
 
 // A name that no earlier guest has.
-fn fresh_name<'v>(object: &'v Value, earlier: &Domains) -> Result<&'v str, ConfigError>
+fn fresh_name<'a>(object: &Value<'a>, earlier: &Domains) -> Result<&'a str, ConfigError>
     ensures name { Answers result (λ s. s.now)
         (name_in earlier.now (get (codes "name") (view object.now))) }
     ensures new_name { IfOk result (λ s. position_of s.now earlier.now ≡ None) }
@@ -77,13 +77,13 @@ fn fresh_name<'v>(object: &'v Value, earlier: &Domains) -> Result<&'v str, Confi
 
 // One guest, after the earlier ones.
 #[tactic(auto, unfolding(crate::specs::Located::keys_of_guest))]
-fn guest<'v>(
+fn guest<'a>(
     alloc: Global,
     limits: &Limits,
     quantum: u32,
-    object: &'v Value,
+    object: &Value<'a>,
     earlier: &Domains,
-) -> Result<Named<'v>, Fault>
+) -> Result<Named<'a>, Fault>
     requires limits { AreLimits limits.now }
     requires some_quantum { 1 ≤ quantum }
     requires short_quantum { quantum ≤ 65536 }
@@ -144,15 +144,15 @@ fn read_guest(
     alloc: Global,
     limits: &Limits,
     quantum: u32,
-    object: Value,
+    object: Value<'_>,
     guests: &mut GuestList,
 ) -> Result<(), Fault>
     requires limits { AreLimits limits.now }
     requires few { length guests.old.domains < 256 }
     requires some_quantum { 1 ≤ quantum }
     requires short_quantum { quantum ≤ 65536 }
-    ensures ok { OnOk result (Reads guests.old guests.new (guest_at limits.now quantum (view object) guests.old.domains)) }
-    ensures err { IfErr result (λ e. IsOrLacksMemory (Err e) (guest_at limits.now quantum (view object) guests.old.domains)) }
+    ensures ok { OnOk result (Reads guests.old guests.new (guest_at limits.now quantum (view object.entry) guests.old.domains)) }
+    ensures err { IfErr result (λ e. IsOrLacksMemory (Err e) (guest_at limits.now quantum (view object.entry) guests.old.domains)) }
 {
     let guest = guest(alloc, limits, quantum, &object, &guests.domains)?;
     add(guests, guest)?;
@@ -164,13 +164,13 @@ pub(crate) fn guests(
     alloc: Global,
     limits: &Limits,
     quantum: u32,
-    objects: Vec<Value>,
+    objects: Vec<Value<'_>>,
 ) -> Result<GuestList, Fault>
     requires limits { AreLimits limits.now }
     requires few { vec_len objects ≤ 256 }
     requires some_quantum { 1 ≤ quantum }
     requires short_quantum { quantum ≤ 65536 }
-    ensures guests { IsOrLacksMemory result (guests_at limits.now quantum (map view objects.items) no_guests) }
+    ensures guests { IsOrLacksMemory result (guests_at limits.now quantum (map view objects.entry.items) no_guests) }
     ensures within { IfOk result (λ guests. AreWithinLimits guests.domains) }
     ensures few { IfOk result (λ guests. length guests.domains ≤ 256) }
     ensures autostart { IfOk result (λ guests. length guests.autostart ≡ length guests.domains) }

@@ -1,7 +1,7 @@
 // One key of a JSON object, by the kind and the range that it has to have.
-ghost use Rattle.std.specs.Prelude.{◌≡◌, ◌≤◌, IfOk, map, length, vec_len};
+ghost use Rattle.std.specs.Prelude.{◌≡◌, ◌≤◌, [], IfOk, map, length, vec_len};
 ghost use Rattle.serde_json.specs.Find.{get};
-ghost use Rattle.serde_json.specs.View.{view};
+ghost use Rattle.vm_json.specs.View.{view};
 ghost use Rattle.vm_domains.specs.Machine.{AreFalling};
 ghost use Rattle.vm_config.specs.Keys.{among, falling_percents, is_object, is_text, is_whole, items_in, number_in, objects_in, objects_or_none, percents_in, text_in, text_of, texts_or_none};
 ghost use Rattle.vm_config.specs.Outcomes.{Answers};
@@ -11,17 +11,17 @@ ghost use Rattle.std.specs.List.{list_all};
 use crate::error::ConfigError;
 use crate::fault::{Fault, at};
 use crate::place::{Key, Part};
-use serde_json::Value;
+use vm_json::{Value, member, take_member};
 use vm_plan::Percents;
 
 // ---- numbers
 
 // A number that is written with digits alone and lies in the range.
-fn number_within(value: &Value, least: u64, greatest: u64) -> Result<u64, ConfigError>
+fn number_within(value: &Value<'_>, least: u64, greatest: u64) -> Result<u64, ConfigError>
     ensures value { result ≡ number_in (view value.now) least greatest }
     ensures within { IfOk result (λ n. (least ≤ n) × (n ≤ greatest)) }
 {
-    let number = value.as_u64().ok_or(ConfigError::Kind)?;
+    let number = vm_json::whole(value).ok_or(ConfigError::Kind)?;
     if number < least || greatest < number {
         return Err(ConfigError::Range);
     }
@@ -30,7 +30,7 @@ fn number_within(value: &Value, least: u64, greatest: u64) -> Result<u64, Config
 
 // The number at a key that has to be there.
 pub(crate) fn number(
-    object: &Value,
+    object: &Value<'_>,
     part: Part,
     key: Key,
     least: u64,
@@ -39,7 +39,7 @@ pub(crate) fn number(
     ensures value { result ≡ number_at (view object.now) part key least greatest }
     ensures within { IfOk result (λ n. (least ≤ n) × (n ≤ greatest)) }
 {
-    let number = match object.get(key.name()) {
+    let number = match member(object, key.name()) {
         Some(value) => number_within(value, least, greatest),
         None => Err(ConfigError::Missing),
     };
@@ -48,7 +48,7 @@ pub(crate) fn number(
 
 // The number at a key, or its default where there is none.
 pub(crate) fn number_or_default(
-    object: &Value,
+    object: &Value<'_>,
     part: Part,
     key: Key,
     least: u64,
@@ -60,7 +60,7 @@ pub(crate) fn number_or_default(
     ensures value { result ≡ number_or_at (view object.now) part key least greatest default }
     ensures within { IfOk result (λ n. (least ≤ n) × (n ≤ greatest)) }
 {
-    let number = match object.get(key.name()) {
+    let number = match member(object, key.name()) {
         Some(value) => number_within(value, least, greatest),
         None => Ok(default),
     };
@@ -71,15 +71,15 @@ pub(crate) fn number_or_default(
 
 // The truth value at a key, or its default where there is none.
 pub(crate) fn flag_or_default(
-    object: &Value,
+    object: &Value<'_>,
     part: Part,
     key: Key,
     default: bool,
 ) -> Result<bool, Fault>
     ensures { result ≡ flag_or_at (view object.now) part key default }
 {
-    let flag = match object.get(key.name()) {
-        Some(value) => value.as_bool().ok_or(ConfigError::Kind),
+    let flag = match member(object, key.name()) {
+        Some(value) => vm_json::truth(value).ok_or(ConfigError::Kind),
         None => Ok(default),
     };
     at(part, key, flag)
@@ -88,7 +88,7 @@ pub(crate) fn flag_or_default(
 // The same at a key that some versions do not know.
 pub(crate) fn flag_if_known(
     is_known: bool,
-    object: &Value,
+    object: &Value<'_>,
     part: Part,
     key: Key,
     default: bool,
@@ -105,41 +105,49 @@ pub(crate) fn flag_if_known(
 // ---- texts
 
 // The text at a key that has to be there.
-pub(crate) fn text<'v>(object: &'v Value, key: &str) -> Result<&'v str, ConfigError>
+pub(crate) fn text<'a>(object: &Value<'a>, key: &str) -> Result<&'a str, ConfigError>
     ensures { Answers result (λ s. s.now) (text_in (get key.now (view object.now))) }
 {
-    let value = object.get(key).ok_or(ConfigError::Missing)?;
-    value.as_str().ok_or(ConfigError::Kind)
+    let value = member(object, key).ok_or(ConfigError::Missing)?;
+    vm_json::text(value).ok_or(ConfigError::Kind)
 }
 
 // The text that a value is, and of another value the empty text.
-pub(crate) fn text_of(value: &Value) -> &str
+pub(crate) fn text_of<'a>(value: &Value<'a>) -> &'a str
     ensures { result.now ≡ text_of (view value.now) }
 {
-    value.as_str().unwrap_or("")
+    vm_json::text(value).unwrap_or("")
 }
 
 // ---- arrays
 
+fn no_values<'v, 'a>() -> &'v [Value<'a>]
+    ensures { result.now ≡ [] }
+{
+    &[]
+}
+
 // The items of an array.
 #[tactic(auto, using(crate::proofs::ValueLemmas::list_of_items))]
-fn items(value: &Value) -> Result<&[Value], ConfigError>
+fn items<'v, 'a>(value: &'v Value<'a>) -> Result<&'v [Value<'a>], ConfigError>
     ensures { Answers result (λ vs. map view vs.now) (items_in (view value.now)) }
 {
-    let items = value.as_array().ok_or(ConfigError::Kind)?;
-    Ok(items.as_slice())
+    vm_json::items(value).ok_or(ConfigError::Kind)
 }
 
 // Whether each value is an object.
-fn are_objects(values: &[Value]) -> bool
+fn are_objects(values: &[Value<'_>]) -> bool
     ensures { result ≡ list_all (λ v. is_object (view v)) values.now }
 {
-    values.iter().all(|value| value.is_object())
+    values.iter().all(|value| vm_json::is_object(value))
 }
 
 // All the values, if they are objects and at most `limit`.
 #[tactic(auto, using(crate::proofs::ValueLemmas::objects_seen, crate::proofs::ValueLemmas::count_seen))]
-fn limited_objects(values: &[Value], limit: usize) -> Result<&[Value], ConfigError>
+fn limited_objects<'v, 'a>(
+    values: &'v [Value<'a>],
+    limit: usize,
+) -> Result<&'v [Value<'a>], ConfigError>
     ensures objects { Answers result (λ vs. map view vs.now) (among is_object limit (map view values.now)) }
     ensures few { IfOk result (λ vs. length vs.now ≤ limit) }
     ensures same { IfOk result (λ vs. vs.now ≡ values.now) }
@@ -154,68 +162,68 @@ fn limited_objects(values: &[Value], limit: usize) -> Result<&[Value], ConfigErr
 }
 
 // The objects at a key that has to be there.
-pub(crate) fn objects<'v>(
-    object: &'v Value,
+pub(crate) fn objects<'v, 'a>(
+    object: &'v Value<'a>,
     key: &str,
     limit: usize,
-) -> Result<&'v [Value], ConfigError>
+) -> Result<&'v [Value<'a>], ConfigError>
     ensures objects { Answers result (λ vs. map view vs.now) (objects_in limit (get key.now (view object.now))) }
     ensures few { IfOk result (λ vs. length vs.now ≤ limit) }
 {
-    let value = object.get(key).ok_or(ConfigError::Missing)?;
+    let value = member(object, key).ok_or(ConfigError::Missing)?;
     limited_objects(items(value)?, limit)
 }
 
 // The objects at a key, or none where the key is absent.
-pub(crate) fn objects_or_none<'v>(
-    object: &'v Value,
+pub(crate) fn objects_or_none<'v, 'a>(
+    object: &'v Value<'a>,
     key: &str,
     limit: usize,
-) -> Result<&'v [Value], ConfigError>
+) -> Result<&'v [Value<'a>], ConfigError>
     ensures { Answers result (λ vs. map view vs.now) (objects_or_none limit (get key.now (view object.now))) }
 {
-    if object.get(key).is_none() {
-        return Ok(&[]);
+    if member(object, key).is_none() {
+        return Ok(no_values());
     }
     objects(object, key, limit)
 }
 
 // The items of an array, which are moved out.
 #[tactic(auto, using(crate::proofs::ValueLemmas::list_of_items))]
-fn take_items(value: Value) -> Result<Vec<Value>, ConfigError>
-    ensures { Answers result (λ vs. map view vs.items) (items_in (view value)) }
+fn take_items<'a>(value: Value<'a>) -> Result<Vec<Value<'a>>, ConfigError>
+    ensures { Answers result (λ vs. map view vs.items) (items_in (view value.entry)) }
 {
-    match value {
-        Value::Array(items) => Ok(items),
-        _ => Err(ConfigError::Kind),
-    }
+    vm_json::into_items(value).ok_or(ConfigError::Kind)
 }
 
-// The objects at a key that has to be there, which are moved out.
-pub(crate) fn take_objects(
-    object: &mut Value,
+// The objects at a key that has to be there, which are moved out. The rest goes.
+pub(crate) fn take_objects<'a>(
+    object: Value<'a>,
     key: &str,
     limit: usize,
-) -> Result<Vec<Value>, ConfigError>
-    ensures objects { Answers result (λ vs. map view vs.items) (objects_in limit (get key.now (view object.old))) }
+) -> Result<Vec<Value<'a>>, ConfigError>
+    ensures objects { Answers result (λ vs. map view vs.items) (objects_in limit (get key.now (view object.entry))) }
     ensures few { IfOk result (λ vs. vec_len vs ≤ limit) }
 {
-    let value = object.get_mut(key).ok_or(ConfigError::Missing)?;
-    let items = take_items(value.take())?;
+    let value = take_member(object, key).ok_or(ConfigError::Missing)?;
+    let items = take_items(value)?;
     limited_objects(items.as_slice(), limit)?;
     Ok(items)
 }
 
 // Whether each value is a text.
-fn are_texts(values: &[Value]) -> bool
+fn are_texts(values: &[Value<'_>]) -> bool
     ensures { result ≡ list_all (λ v. is_text (view v)) values.now }
 {
-    values.iter().all(|value| value.is_string())
+    values.iter().all(|value| vm_json::text(value).is_some())
 }
 
 // All the values, if they are texts and at most `limit`.
 #[tactic(auto, using(crate::proofs::ValueLemmas::texts_seen, crate::proofs::ValueLemmas::count_seen))]
-fn limited_texts(values: &[Value], limit: usize) -> Result<&[Value], ConfigError>
+fn limited_texts<'v, 'a>(
+    values: &'v [Value<'a>],
+    limit: usize,
+) -> Result<&'v [Value<'a>], ConfigError>
     ensures texts { Answers result (λ vs. map view vs.now) (among is_text limit (map view values.now)) }
     ensures few { IfOk result (λ vs. length vs.now ≤ limit) }
 {
@@ -229,16 +237,16 @@ fn limited_texts(values: &[Value], limit: usize) -> Result<&[Value], ConfigError
 }
 
 // The texts at a key, as values that `text_of` reads, or none where the key is absent.
-pub(crate) fn texts_or_none<'v>(
-    object: &'v Value,
+pub(crate) fn texts_or_none<'v, 'a>(
+    object: &'v Value<'a>,
     key: &str,
     limit: usize,
-) -> Result<&'v [Value], ConfigError>
+) -> Result<&'v [Value<'a>], ConfigError>
     ensures texts { Answers result (λ vs. map text_of (map view vs.now)) (texts_or_none limit (get key.now (view object.now))) }
     ensures few { IfOk result (λ vs. length vs.now ≤ limit) }
 {
-    let Some(value) = object.get(key) else {
-        return Ok(&[]);
+    let Some(value) = member(object, key) else {
+        return Ok(no_values());
     };
     limited_texts(items(value)?, limit)
 }
@@ -246,14 +254,14 @@ pub(crate) fn texts_or_none<'v>(
 // ---- percents
 
 // Whether each value is a number that is written with digits alone.
-fn are_whole(values: &[Value]) -> bool
+fn are_whole(values: &[Value<'_>]) -> bool
     ensures { result ≡ list_all (λ v. is_whole (view v)) values.now }
 {
-    values.iter().all(|value| value.is_u64())
+    values.iter().all(|value| vm_json::whole(value).is_some())
 }
 
 // Four percents, none above the one before it.
-fn falling_percents(values: &[Value], most: u64) -> Result<Percents, ConfigError>
+fn falling_percents(values: &[Value<'_>], most: u64) -> Result<Percents, ConfigError>
     requires { most ≤ 10000 }
     ensures percents { result ≡ falling_percents most (map view values.now) }
     ensures falling { IfOk result (AreFalling most) }
@@ -275,7 +283,7 @@ fn falling_percents(values: &[Value], most: u64) -> Result<Percents, ConfigError
 
 // The percents that a value is.
 #[tactic(auto, using(crate::proofs::ValueLemmas::whole_seen))]
-fn percents(value: &Value, most: u64) -> Result<Percents, ConfigError>
+fn percents(value: &Value<'_>, most: u64) -> Result<Percents, ConfigError>
     requires { most ≤ 10000 }
     ensures percents { result ≡ percents_in most (view value.now) }
     ensures falling { IfOk result (AreFalling most) }
@@ -289,7 +297,7 @@ fn percents(value: &Value, most: u64) -> Result<Percents, ConfigError>
 
 // The percents at a key, or their default where there is none.
 pub(crate) fn percents_or_default(
-    object: &Value,
+    object: &Value<'_>,
     part: Part,
     key: Key,
     most: u64,
@@ -300,7 +308,7 @@ pub(crate) fn percents_or_default(
     ensures percents { result ≡ percents_or_at (view object.now) part key most default }
     ensures falling { IfOk result (AreFalling most) }
 {
-    let percents = match object.get(key.name()) {
+    let percents = match member(object, key.name()) {
         Some(value) => percents(value, most),
         None => Ok(default),
     };

@@ -1,6 +1,6 @@
 // The machine of a configuration.
 ghost use Rattle.std.specs.Prelude.{◌≡◌, ◌≤◌, IfOk};
-ghost use Rattle.serde_json.specs.View.{view};
+ghost use Rattle.vm_json.specs.View.{view};
 ghost use Rattle.vm_config.specs.Located.{machine_at};
 ghost use Rattle.vm_config.specs.Versions.{AreLimits};
 
@@ -8,8 +8,8 @@ use crate::fault::Fault;
 use crate::keys::{number, number_or_default, percents_or_default};
 use crate::place::{Key, Part};
 use crate::version::Limits;
-use serde_json::Value;
 use vm_domains::MachineSpec;
+use vm_json::Value;
 
 const MAX_OVERHEAD: u64 = 1024;
 
@@ -19,7 +19,7 @@ const DEFAULT_PAGE_RATE: u64 = 16;
 
 // The machine, with the numbers of the text.
 #[tactic(auto, unfolding(crate::specs::Located::machine_at))]
-pub(crate) fn machine(limits: &Limits, object: &Value) -> Result<MachineSpec, Fault>
+pub(crate) fn machine(limits: &Limits, object: &Value<'_>) -> Result<MachineSpec, Fault>
     requires { AreLimits limits.now }
     ensures machine { result ≡ machine_at limits.now (view object.now) }
     ensures tax { IfOk result (λ m. m.tax ≤ limits.now.tax) }

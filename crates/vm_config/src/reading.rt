@@ -1,7 +1,7 @@
 // From a text to a configuration.
 ghost use Rattle.std.specs.Prelude.{◌≡◌, ℕ, ◌≤◌, IfOk, Ok, Some};
 ghost use Rattle.std.specs.Option.{option_map};
-ghost use Rattle.serde_json.specs.View.{view};
+ghost use Rattle.vm_json.specs.View.{view};
 ghost use Rattle.vm_config.specs.declared.config.Config.{Config};
 ghost use Rattle.vm_config.specs.declared.error.ConfigError.{ConfigError};
 ghost use Rattle.vm_config.specs.declared.place.Key.{Key};
@@ -25,8 +25,8 @@ use crate::machine::machine;
 use crate::migration::migrate;
 use crate::place::{Key, Part, Place};
 use crate::version::{Limits, VERSION_1, VERSION_2};
-use serde_json::Value;
 use std::alloc::{AllocError, Global};
+use vm_json::{ReadError, Scratch, Value, is_object};
 
 const MAX_QUANTUM: u64 = 65536;
 
@@ -38,14 +38,13 @@ const MAX_COMMANDS: usize = 10_000;
 
 // The keys of the root after the version, then each guest, and then each command.
 #[tactic(auto, unfolding(crate::specs::Located::keys_at))]
-fn keys(alloc: Global, limits: &Limits, root: Value) -> Result<Config, Fault>
+fn keys(alloc: Global, limits: &Limits, root: Value<'_>) -> Result<Config, Fault>
     requires { AreLimits limits.now }
-    ensures config { IsOrLacksMemory result (keys_at limits.now (view root)) }
+    ensures config { IsOrLacksMemory result (keys_at limits.now (view root.entry)) }
     ensures limits { IfOk result IsConfig }
     ensures tax { IfOk result (λ c. c.machine.tax ≤ limits.now.tax) }
     ensures percent { IfOk result (λ c. c.machine.percent.high ≤ limits.now.percent) }
 {
-    let mut root = root;
     let machine = machine(limits, &root)?;
     let quantum = number_or_default(
         &root,
@@ -68,7 +67,7 @@ fn keys(alloc: Global, limits: &Limits, root: Value) -> Result<Config, Fault>
     let objects = at(
         Part::Root,
         Key::Guests,
-        take_objects(&mut root, "guests", limits.guests),
+        take_objects(root, "guests", limits.guests),
     )?;
     let GuestList { domains, autostart } = guests(alloc, limits, quantum as u32, objects)?;
     Ok(Config {
@@ -82,8 +81,8 @@ fn keys(alloc: Global, limits: &Limits, root: Value) -> Result<Config, Fault>
 
 // The keys of version 1.
 #[tactic(auto, unfolding(crate::specs::Versions::version_1))]
-fn keys_v1(alloc: Global, root: Value) -> Result<ConfigV1, Fault>
-    ensures config { IsOrLacksMemory result (keys_at version_1 (view root)) }
+fn keys_v1(alloc: Global, root: Value<'_>) -> Result<ConfigV1, Fault>
+    ensures config { IsOrLacksMemory result (keys_at version_1 (view root.entry)) }
     ensures limits { IfOk result IsConfig }
 {
     let written = keys(alloc, &VERSION_1, root)?;
@@ -92,49 +91,52 @@ fn keys_v1(alloc: Global, root: Value) -> Result<ConfigV1, Fault>
 
 // The keys of version 2.
 #[tactic(auto, unfolding(crate::specs::Versions::version_2))]
-fn keys_v2(alloc: Global, root: Value) -> Result<Config, Fault>
-    ensures config { IsOrLacksMemory result (keys_at version_2 (view root)) }
+fn keys_v2(alloc: Global, root: Value<'_>) -> Result<Config, Fault>
+    ensures config { IsOrLacksMemory result (keys_at version_2 (view root.entry)) }
     ensures limits { IfOk result IsConfig }
 {
     keys(alloc, &VERSION_2, root)
 }
 
 // The JSON value that the bytes are.
-fn parse(alloc: Global, bytes: &[u8]) -> Result<Value, ConfigError>
+fn parse<'a>(
+    alloc: Global,
+    bytes: &'a [u8],
+    scratch: &'a mut Scratch,
+) -> Result<Value<'a>, ConfigError>
     ensures { IsOrMemory (data_of result) (data_in bytes.now) }
 {
-    match Value::from_slice(alloc, bytes) {
+    match vm_json::read(alloc, bytes, scratch) {
         Ok(value) => Ok(value),
-        Err(error) => {
-            if error.is_memory() {
-                Err(ConfigError::Memory)
-            } else {
-                Err(ConfigError::NotJson)
-            }
-        }
+        Err(ReadError::Memory) => Err(ConfigError::Memory),
+        Err(ReadError::NotJson) => Err(ConfigError::NotJson),
     }
 }
 
 // The root of a text, which is an object.
-fn object(alloc: Global, bytes: &[u8]) -> Result<Value, ConfigError>
+fn object<'a>(
+    alloc: Global,
+    bytes: &'a [u8],
+    scratch: &'a mut Scratch,
+) -> Result<Value<'a>, ConfigError>
     ensures { IsOrMemory (data_of result) (root_in bytes.now) }
 {
-    let value = parse(alloc, bytes)?;
-    if !value.is_object() {
+    let value = parse(alloc, bytes, scratch)?;
+    if !is_object(&value) {
         return Err(ConfigError::Kind);
     }
     Ok(value)
 }
 
 // The same, with the place of a fault.
-fn root(alloc: Global, bytes: &[u8]) -> Result<Value, Fault>
+fn root<'a>(alloc: Global, bytes: &'a [u8], scratch: &'a mut Scratch) -> Result<Value<'a>, Fault>
     ensures { IsOrLacksMemory (root_seen result) (root_at bytes.now) }
 {
-    in_text(object(alloc, bytes))
+    in_text(object(alloc, bytes, scratch))
 }
 
 // The version of a configuration, at most the newest one that is asked for.
-fn version(root: &Value, newest: u64) -> Result<u64, Fault>
+fn version(root: &Value<'_>, newest: u64) -> Result<u64, Fault>
     ensures { result ≡ version_at newest (view root.now) }
 {
     number(root, Part::Root, Key::Version, 1, newest)
@@ -145,7 +147,8 @@ fn located_v1(alloc: Global, bytes: &[u8]) -> Result<ConfigV1, Fault>
     ensures config { IsOrLacksMemory result (config_v1_at bytes.now) }
     ensures limits { IfOk result IsConfig }
 {
-    let root = root(alloc, bytes)?;
+    let mut scratch = Scratch::new(alloc);
+    let root = root(alloc, bytes, &mut scratch)?;
     version(&root, 1)?;
     keys_v1(alloc, root)
 }
@@ -156,7 +159,8 @@ fn located(alloc: Global, bytes: &[u8]) -> Result<Config, Fault>
     ensures limits { IfOk result IsConfig }
     ensures migrates { (c : Config) → config_v1_at bytes.now ≡ Ok c → IsOrLacksMemory result (Ok (migrated c)) }
 {
-    let root = root(alloc, bytes)?;
+    let mut scratch = Scratch::new(alloc);
+    let root = root(alloc, bytes, &mut scratch)?;
     if version(&root, 2)? == 1 {
         let config = keys_v1(alloc, root)?;
         return Ok(migrate(config));

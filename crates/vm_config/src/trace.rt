@@ -1,42 +1,29 @@
 // The steps of a guest, read from their texts.
-ghost use Rattle.std.specs.Prelude.{◌≡◌, ◌≤◌, ◌<◌, [], map, length, All, IfOk};
-ghost use Rattle.serde_json.specs.View.{view};
+ghost use Rattle.std.specs.Prelude.{◌≡◌, ◌≤◌, ◌↔◌, [], map, length, All, IfOk, IsTrue};
+ghost use Rattle.vm_json.specs.View.{view};
 ghost use Rattle.vm_trace.specs.Limits.{IsStep, IsWithin};
 ghost use Rattle.vm_config.specs.Keys.{text_of};
 ghost use Rattle.vm_config.specs.Outcomes.{IsOrMemory};
 ghost use Rattle.vm_config.specs.Reading.{steps_from};
-ghost use Rattle.vm_config.specs.Trace.{on_page, step_in, within_pages};
+ghost use Rattle.vm_config.specs.Trace.{step_in};
 
 use crate::error::ConfigError;
 use crate::keys::text_of;
-use serde_json::Value;
 use std::alloc::Global;
+use vm_json::Value;
 use vm_trace::{Action, Step, Trace, TraceError, parse_step_within};
 
-// The step, if its page is below the size.
-fn on_page(size: u32, page: u32, step: Step) -> Result<Step, TraceError>
-    ensures step { result ≡ on_page size page step }
-    ensures within { IfOk result (λ _. page < size) }
-{
-    if page < size {
-        Ok(step)
-    } else {
-        Err(TraceError::Range)
-    }
-}
-
-// The step, if its page is one of a guest with this many pages.
-fn within_pages(size: u32, step: Step) -> Result<Step, TraceError>
-    ensures step { result ≡ within_pages size step }
-    ensures within { IfOk result (IsWithin size) }
-    ensures bounded { IfOk result IsStep }
+// Whether the step's page, if it has one, is one of a guest with this many pages.
+fn is_within(size: u32, step: &Step) -> bool
+    ensures within { IsTrue result ↔ IsWithin size step.now }
+    ensures limits { IsStep step.now }
 {
     match step.action() {
-        Action::Read { page, .. } => on_page(size, page, step),
-        Action::Write { page, .. } => on_page(size, page, step),
-        Action::Free { page } => on_page(size, page, step),
-        Action::Idle => Ok(step),
-        Action::Post { .. } => Ok(step),
+        Action::Read { page, .. } => page < size,
+        Action::Write { page, .. } => page < size,
+        Action::Free { page } => page < size,
+        Action::Idle => true,
+        Action::Post { .. } => true,
     }
 }
 
@@ -49,7 +36,10 @@ fn step_in(pages: u32, size: u32, text: &str) -> Result<Step, TraceError>
     ensures bounded { IfOk result IsStep }
 {
     let step = parse_step_within(text, pages)?;
-    within_pages(size, step)
+    if !is_within(size, &step) {
+        return Err(TraceError::Range);
+    }
+    Ok(step)
 }
 
 // The steps, or the first fault with its place.
@@ -58,7 +48,7 @@ pub(crate) fn trace(
     pages: u32,
     size: u32,
     guest: usize,
-    texts: &[Value],
+    texts: &[Value<'_>],
 ) -> Result<Trace, ConfigError>
     requires some { 1 ≤ pages }
     requires few { pages ≤ 262144 }
@@ -70,11 +60,16 @@ pub(crate) fn trace(
     let mut steps = Trace::with_capacity(alloc, texts.len()).map_err(|_| ConfigError::Memory)?;
     for text in texts {
         let place = steps.len();
-        let step = step_in(pages, size, text_of(text)).map_err(|fault| ConfigError::Trace {
-            guest,
-            step: place,
-            fault,
-        })?;
+        let step = match step_in(pages, size, text_of(text)) {
+            Ok(step) => step,
+            Err(fault) => {
+                return Err(ConfigError::Trace {
+                    guest,
+                    step: place,
+                    fault,
+                });
+            }
+        };
         steps.push(step).map_err(|_| ConfigError::Memory)?;
     }
     Ok(steps)

@@ -1,5 +1,5 @@
 -- What a boundary leaves where memory is refused: the first of its lines are obeyed, and no other is in part.
-use Rattle.std.proofs.Common.{◌≡◌, ◌∙◌, ℕ, ◌+◌, ◌-◌, ◌<◌, IfSome, OnErr, Result, Ok, Err, List, [], ◌∷◌, ◌++◌, Option, Some, None, length, map, min, take, fold, get_or, refl, ap, subst, sym, arith}
+use Rattle.std.proofs.Common.{◌≡◌, ◌∙◌, ℕ, ◌+◌, ◌-◌, ◌<◌, IsSomeAnd, OnErr, Result, Ok, Err, List, [], ◌∷◌, ◌++◌, Option, Some, None, length, map, min, take, fold, get_or, refl, ap, subst, sym, arith}
 use Rattle.std.specs.Option.{option_map}
 use Rattle.std.proofs.lemmas.List.{map_more, take-map}
 use Rattle.std.proofs.Math.Seq.{take-length}
@@ -69,7 +69,7 @@ no-room tax raise pool =
     ap (λ moves. fold taken_at left moves) moves ∙ nothing-back raise pool
 
 -- a guest holds each minimum that it had
-holds-lower : (least : ℕ) (guest : Option GuestRecord) → ((g : GuestRecord) → guest ≡ Some g → IsGood g) → IfSome guest (λ g. least < g.allotment.least_min) → lacking least guest ≡ 0
+holds-lower : (least : ℕ) (guest : Option GuestRecord) → ((g : GuestRecord) → guest ≡ Some g → IsGood g) → IsSomeAnd guest (λ g. least < g.allotment.least_min) → lacking least guest ≡ 0
 holds-lower least None good low = refl
 holds-lower least (Some g) good low =
     let here = good g refl in
@@ -80,12 +80,12 @@ holds-lower least (Some g) good low =
 
 -- so what is found in a guest for which room was made is so before
 pub lower-room : (tax : Tax) (raise : Raise) (needed : ℕ) (pool : PoolView) → EachGuest IsGood pool → needed ≡ lacking raise.least (guest_in pool.guests raise.position)
-    → IfSome (guest_in (room_made tax (Some raise) needed pool).guests raise.position) (λ g. raise.least < g.allotment.least_min)
+    → IsSomeAnd (guest_in (room_made tax (Some raise) needed pool).guests raise.position) (λ g. raise.least < g.allotment.least_min)
     → room_made tax (Some raise) needed pool ≡ pool
 lower-room tax raise needed pool good is low =
     let same = raised_room tax raise needed pool good is in
     let nothing = is ∙ holds-lower raise.least (guest_in pool.guests raise.position) (λ g here. each-in IsGood pool.guests raise.position g good here)
-    (subst (λ (o : Option GuestRecord). IfSome o (λ g. raise.least < g.allotment.least_min)) same low) in
+    (subst (λ (o : Option GuestRecord). IsSomeAnd o (λ g. raise.least < g.allotment.least_min)) same low) in
     ap (λ n. room_made tax (Some raise) n pool) nothing ∙ no-room tax (Some raise) pool
 
 -- ---- one line more

@@ -47,6 +47,12 @@ use Rattle.vm_tax.specs.Ratio.{Tax}
 pub whole-of : (w : World) → IsSoundWorld w → IsWhole w.pool
 whole-of w sound = record { sound = sound.pool; adds_up = sound.conserves ∙ sym sound.frames_are }
 
+pub few-domains : (w : World) → IsSoundWorld w → length w.names ≤ 256
+few-domains w sound =
+    let named = sound.named in
+    let few = sound.pool.few in
+    omega (arith, named, few)
+
 -- a sound host with another pool, which is set up as before
 pub world-of : (w : World) (pool : PoolView) (state : State) (phase : Phase) → IsSoundWorld w → HasSameSetup w.pool pool → IsWhole pool → IsCovered (accounts_of w.machine pool.guests)
     → (phase ≡ Ready → EachGuest HasNothingPosted pool) → IsSoundWorld (record w { pool = pool; state = state; phase = phase })

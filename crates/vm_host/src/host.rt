@@ -196,9 +196,10 @@ impl Host {
         self.parts.spec.frames
     }
 
-    /// How many domains there are, whether they run or not.
+    /// How many domains there are, at most 256, whether they run or not.
     pub fn len(&self) -> usize
-        ensures { result ≡ length self.now.names }
+        ensures names { result ≡ length self.now.names }
+        ensures few { result ≤ 256 }
     {
         self.parts.names.len()
     }

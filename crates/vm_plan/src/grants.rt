@@ -1,21 +1,23 @@
 //! Which guests get more pages.
-ghost use Rattle.std.specs.Prelude.{◌≡◌, ◌<◌, ◌≤◌, ◌↔◌, ℕ, All, IfOk, IfErr, IfSome, IfNone, IsTrue, length, slice_get};
+ghost use Rattle.std.specs.Prelude.{◌≡◌, ◌<◌, ◌≤◌, ◌↔◌, ℕ, All, IfOk, IfErr, IfSome, IfNone, IsNone, IsTrue, length, slice_get, slice_set};
 ghost use Rattle.std.specs.List.{list_any};
+ghost use Rattle.std.specs.Option.{option_map};
 ghost use Rattle.vm_tax.specs.Ratio.{hundredths};
+ghost use Rattle.vm_tax.specs.Prices.{HaveOneTax};
 ghost use Rattle.vm_plan.specs.Moves.{EachMove};
 ghost use Rattle.vm_plan.specs.Grants.{granted_row, frames_for, pool_after, CanGrow, LetsGrow, Outbids, MayGrant, IsNextGrant, IsGrantable, IsGrantList, grant_list};
 ghost use Rattle.vm_plan.specs.PlanRow.{row_of, rows_of, pool_of};
 ghost use Rattle.vm_plan.specs.Row.{change_at, wants_to_grow};
-ghost use Rattle.vm_plan.specs.Track.{IsTracked};
+ghost use Rattle.vm_plan.specs.Track.{IsTracked, AreRivals, AreForState};
 ghost use Rattle.vm_plan.specs.declared.tracking.Kind.TheVariants.{Revocable, Wanting};
 
 use crate::plan::Plan;
 use crate::row::PlanRow;
 use crate::state::State;
 use crate::thresholds::Thresholds;
-use crate::tracking::{copy_of, track_revocable, track_wanting};
+use crate::tracking::{copy_of, track_rivals, track_wanting};
 use std::alloc::{AllocError, Global};
-use vm_tax::{Greatest, Winners, cmp_price};
+use vm_tax::{Greatest, Price, Winners, cmp_price};
 
 /// Adds one page to a guest's target, and says how many free frames that takes.
 fn add_page(row: &mut PlanRow) -> u32
@@ -31,11 +33,22 @@ fn add_page(row: &mut PlanRow) -> u32
     frames
 }
 
+/// Replaces the price of one guest among the rivals, where they are tracked.
+fn set_rival(rivals: &mut Option<Winners>, position: u32, price: Option<Price>)
+    requires within { IfSome rivals.old (λ winners. position < length winners) }
+    requires one_tax { IfSome rivals.old (λ winners. HaveOneTax (slice_set winners position price)) }
+    ensures { rivals.new ≡ option_map (λ winners. slice_set winners position price) rivals.old }
+{
+    if let Some(winners) = rivals {
+        winners.set(position, price);
+    }
+}
+
 /// Gives a guest one page more, and says how many free frames that takes.
 fn give_page(
     tax: u32,
     rows: &mut [PlanRow],
-    winners: &mut Winners,
+    rivals: &mut Option<Winners>,
     wanting: &mut Greatest,
     position: u32,
 ) -> u32
@@ -43,16 +56,17 @@ fn give_page(
     requires within { position < length rows.old }
     requires wants { IfSome (slice_get rows.old position) (λ row. 0 < row.demand) }
     requires below_cap { IfSome (slice_get rows.old position) (λ row. row.target < row.cap) }
-    requires tracked { IsTracked Revocable tax winners.old (rows_of rows.old) }
+    requires rivals { AreRivals tax rivals.old (rows_of rows.old) }
     requires wanting { IsTracked Wanting tax wanting.old (rows_of rows.old) }
     ensures given { rows_of rows.new ≡ change_at granted_row (rows_of rows.old) position }
     ensures frames { IfSome (slice_get rows.old position) (λ row. result ≡ frames_for (row_of row)) }
-    ensures tracked { IsTracked Revocable tax winners.new (rows_of rows.new) }
+    ensures rivals { AreRivals tax rivals.new (rows_of rows.new) }
+    ensures none { IsNone rivals.new ↔ IsNone rivals.old }
     ensures wanting { IsTracked Wanting tax wanting.new (rows_of rows.new) }
 {
     let row = &mut rows[position as usize];
     let frames = add_page(row);
-    winners.set(position, row.revocable_price(tax));
+    set_rival(rivals, position, row.revocable_price(tax));
     wanting.set(position, row.wanting_price(tax));
     frames
 }
@@ -79,31 +93,6 @@ fn outbids(tax: u32, rows: &[PlanRow], winners: &Winners, position: u32) -> bool
     cmp_price(&grown, &rival.price_with(tax, rival.target)).is_ge()
 }
 
-/// Whether the conditions for a grant to this guest hold.
-fn may_grant(
-    state: State,
-    free: u32,
-    thresholds: &Thresholds,
-    tax: u32,
-    rows: &[PlanRow],
-    winners: &Winners,
-    position: u32,
-) -> bool
-    requires tax { tax ≤ 9999 }
-    requires within { position < length rows.now }
-    requires below_cap { IfSome (slice_get rows.now position) (λ row. row.target < row.cap) }
-    requires tracked { IsTracked Revocable tax winners.now (rows_of rows.now) }
-    ensures { IsTrue result
-        ↔ MayGrant state thresholds.now (hundredths tax) (pool_of free rows.now) position }
-{
-    match state {
-        State::High => free > thresholds.soft,
-        State::Soft => free > thresholds.hard && outbids(tax, rows, winners, position),
-        State::Hard => free > thresholds.low && outbids(tax, rows, winners, position),
-        State::Low => false,
-    }
-}
-
 /// Whether enough frames are free for guests to grow.
 fn lets_grow(state: State, free: u32, thresholds: &Thresholds) -> bool
     ensures { IsTrue result ↔ LetsGrow state thresholds.now free }
@@ -113,6 +102,33 @@ fn lets_grow(state: State, free: u32, thresholds: &Thresholds) -> bool
         State::Soft => free > thresholds.hard,
         State::Hard => free > thresholds.low,
         State::Low => false,
+    }
+}
+
+/// Whether the conditions for a grant to this guest hold.
+fn may_grant(
+    state: State,
+    free: u32,
+    thresholds: &Thresholds,
+    tax: u32,
+    rows: &[PlanRow],
+    rivals: &Option<Winners>,
+    position: u32,
+) -> bool
+    requires tax { tax ≤ 9999 }
+    requires within { position < length rows.now }
+    requires below_cap { IfSome (slice_get rows.now position) (λ row. row.target < row.cap) }
+    requires rivals { AreRivals tax rivals.now (rows_of rows.now) }
+    requires for_state { AreForState state rivals.now }
+    ensures { IsTrue result
+        ↔ MayGrant state thresholds.now (hundredths tax) (pool_of free rows.now) position }
+{
+    if !lets_grow(state, free, thresholds) {
+        return false;
+    }
+    match rivals {
+        Some(winners) => outbids(tax, rows, winners, position),
+        None => true,
     }
 }
 
@@ -137,18 +153,19 @@ fn next_grant(
     thresholds: &Thresholds,
     tax: u32,
     rows: &[PlanRow],
-    winners: &Winners,
+    rivals: &Option<Winners>,
     wanting: &Greatest,
 ) -> Option<u32>
     requires tax { tax ≤ 9999 }
-    requires tracked { IsTracked Revocable tax winners.now (rows_of rows.now) }
+    requires rivals { AreRivals tax rivals.now (rows_of rows.now) }
+    requires for_state { AreForState state rivals.now }
     requires wanting { IsTracked Wanting tax wanting.now (rows_of rows.now) }
     ensures some { IfSome result (IsNextGrant state thresholds.now (hundredths tax) (pool_of free rows.now)) }
     ensures none { IfNone result ((position : ℕ) →
         ¬ IsNextGrant state thresholds.now (hundredths tax) (pool_of free rows.now) position) }
 {
     let best = wanting.greatest()?;
-    if may_grant(state, free, thresholds, tax, rows, winners, best) {
+    if may_grant(state, free, thresholds, tax, rows, rivals, best) {
         Some(best)
     } else {
         None
@@ -188,14 +205,12 @@ pub fn grant(
         return Ok(Plan::new(alloc));
     }
     let mut after = copy_of(alloc, rows)?;
-    let mut winners = track_revocable(alloc, tax, rows)?;
+    let mut rivals = track_rivals(alloc, state, tax, rows)?;
     let mut wanting = track_wanting(alloc, tax, rows)?;
     let mut left = free;
     let mut plan = Plan::new(alloc);
-    while let Some(position) = next_grant(
-        state, left, thresholds, tax, &after, &winners, &wanting,
-    ) {
-        left -= give_page(tax, &mut after, &mut winners, &mut wanting, position);
+    while let Some(position) = next_grant(state, left, thresholds, tax, &after, &rivals, &wanting) {
+        left -= give_page(tax, &mut after, &mut rivals, &mut wanting, position);
         plan.push(position)?;
     }
     Ok(plan)

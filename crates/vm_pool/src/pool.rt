@@ -1,4 +1,4 @@
-ghost use Rattle.std.specs.Prelude.{◌≡◌, ℕ, ◌+◌, ◌<◌, ◌≤◌, ◌↔◌, IfOk, IfErr, IfSome, IsSome, OnOk, OnErr, IsTrue, None, [], length, map, slice_get, vec_len, vec_capacity};
+ghost use Rattle.std.specs.Prelude.{◌≡◌, ℕ, ◌+◌, ◌<◌, ◌≤◌, ◌↔◌, IfOk, IfErr, IfSome, IsSome, IsSomeAnd, OnOk, OnErr, IsTrue, None, [], length, map, slice_get, vec_len, vec_capacity};
 ghost use Rattle.std.specs.Option.{option_map};
 ghost use Rattle.vm_guest.specs.Boundary.{ordered, revoked, serviced, with_cap, with_shares, without_spares};
 ghost use Rattle.vm_guest.specs.Good.{HasNothingPosted, IsGood};
@@ -314,7 +314,7 @@ impl Pool {
         requires to { IfSome (guest_at self.old position) (λ g. least ≤ g.allotment.cap) }
         requires enough { lacking least (guest_at self.old position) ≤ self.old.free }
         ensures done { OnOk result (self.new ≡ with_min_at least self.old position) }
-        ensures lowered { OnErr result (IfSome (guest_at self.old position) (λ g. least < g.allotment.least_min)) }
+        ensures lowered { OnErr result (IsSomeAnd (guest_at self.old position) (λ g. least < g.allotment.least_min)) }
         ensures unchanged { OnErr result (self.new ≡ self.old) }
     {
         set_min(&mut self.slots[position], least, &mut self.machine)?;

@@ -1,5 +1,5 @@
 // One place of a pool: a stopped guest's specification, or a guest.
-ghost use Rattle.std.specs.Prelude.{◌≡◌, ℕ, ◌+◌, ◌-◌, ◌*◌, ◌<◌, ◌≤◌, ◌^◌, Bool, IfOk, IfSome, OnOk, OnErr, Some, None, true, length, map, slice_get};
+ghost use Rattle.std.specs.Prelude.{◌≡◌, ℕ, ◌+◌, ◌-◌, ◌*◌, ◌<◌, ◌≤◌, ◌^◌, Bool, IfOk, IfSome, IsSomeAnd, OnOk, OnErr, Some, None, true, length, map, slice_get};
 ghost use Rattle.std.specs.FinSet as set;
 ghost use Rattle.std.specs.Option.{option_map};
 ghost use Rattle.vm_guest.specs.Boundary.{granted, ordered, released, revoked, serviced, without_spares, with_cap, with_shares};
@@ -204,7 +204,7 @@ pub(crate) fn set_min(slot: &mut Slot, least: u32, machine: &mut Machine) -> Res
     requires settled { IsSettled slot.old }
     requires out { (number : ℕ) → holds number slot.old ≡ true → set.contains machine.old.out number ≡ true }
     ensures done { OnOk result (Moves (option_map (with_min_held least) (guest_in slot.old)) slot.old slot.new machine.old machine.new) }
-    ensures lowered { OnErr result (IfSome (guest_in slot.old) (λ g. least < g.allotment.least_min)) }
+    ensures lowered { OnErr result (IsSomeAnd (guest_in slot.old) (λ g. least < g.allotment.least_min)) }
     ensures slot { OnErr result (slot.new ≡ slot.old) }
     ensures machine { OnErr result (machine.new ≡ machine.old) }
 {

@@ -1,5 +1,5 @@
 // The rows of a run.
-ghost use Rattle.std.specs.Prelude.{◌≡◌, map, is_some, IfOk, None, slice_get, unwrap_or, string_bytes};
+ghost use Rattle.std.specs.Prelude.{◌≡◌, ◌≤◌, length, map, is_some, IfOk, None, slice_get, unwrap_or, string_bytes};
 ghost use Rattle.std.specs.List.{list_any};
 ghost use Rattle.vm_host.specs.World.{World};
 ghost use Rattle.vm_sim.specs.Report.{positions};
@@ -19,16 +19,20 @@ pub struct EpochRow {
 }
 
 impl Model for EpochRow {
+    ghost use Rattle.std.specs.Prelude.{◌≤◌, length};
     ghost use Rattle.vm_series.specs.Rows.{Row};
 
     ghost Value = { Row };
 
     ghost view = { λ r. record { epoch = r.epoch; state = r.state; free = r.free; views = r.views.items } };
+
+    ghost invariant = { λ r. length r.views.items ≤ 256 };
 }
 
 // What the host shows of the guests, by position.
 fn views_of(alloc: Global, host: &Host) -> Result<Vec<Option<GuestView>>, AllocError>
-    ensures { IfOk result (λ views. views.items ≡ map (view_at host.now) (positions host.now)) }
+    ensures views { IfOk result (λ views. views.items ≡ map (view_at host.now) (positions host.now)) }
+    ensures few { IfOk result (λ views. length views.items ≤ 256) }
 {
     let mut views = Vec::new(alloc);
     for position in 0..host.len() {
@@ -71,9 +75,10 @@ impl EpochRow {
         self.free
     }
 
-    /// What is shown of the guests, by position: nothing where none runs.
+    /// What is shown of the guests, by position, of at most 256: nothing where none runs.
     pub fn views(&self) -> &[Option<GuestView>]
-        ensures { result.now ≡ self.now.views }
+        ensures views { result.now ≡ self.now.views }
+        ensures few { length result.now ≤ 256 }
     {
         self.views.as_slice()
     }

@@ -1,5 +1,5 @@
 use Rattle.std.proofs.Common.{◌≡◌, [], map, drop}
-use Rattle.serde_json.specs.View.{view}
+use Rattle.vm_json.specs.View.{view}
 use Rattle.vm_config.specs.Located.{commands_at}
 use Rattle.vm_config.proofs.commands.commands.Given as goal
 

@@ -1,5 +1,5 @@
 use Rattle.std.proofs.Common.{◌≡◌, ◌≤◌, ◌+◌, map, length}
-use Rattle.serde_json.specs.View.{view}
+use Rattle.vm_json.specs.View.{view}
 use Rattle.vm_config.specs.Guests.{no_guests}
 use Rattle.vm_domains.specs.Limits.{AreWithinLimits}
 use Rattle.vm_config.specs.Located.{guests_at}

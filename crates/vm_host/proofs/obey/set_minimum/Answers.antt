@@ -1,4 +1,4 @@
-use Rattle.std.proofs.Common.{◌≡◌, ◌∙◌, ◌<◌, IfSome, subst, sym}
+use Rattle.std.proofs.Common.{◌≡◌, ◌∙◌, ◌<◌, IsSomeAnd, subst, sym}
 use Rattle.vm_pool.specs.Pool.{PoolView, guest_at}
 use Rattle.vm_tax.specs.Ratio.{hundredths}
 use Rattle.vm_reclaim.specs.Room.{raise_to}
@@ -28,6 +28,6 @@ returns-in_err-set_min-clause-unchanged c =
     let raise : Raise = record { position = c.args.position; least = c.args.least } in
     let pool = c.args.pool.now in
     let made = c.in_ok-plan.ensures.done in
-    let low = subst (λ (p : PoolView). IfSome (guest_at p c.args.position) (λ g. c.args.least < g.allotment.least_min)) made c.in_err-set_min.ensures.lowered in
+    let low = subst (λ (p : PoolView). IsSomeAnd (guest_at p c.args.position) (λ g. c.args.least < g.allotment.least_min)) made c.in_err-set_min.ensures.lowered in
     let same = lower-room tax raise c.lacking_at-lacking.result pool c.requires.sound.good c.lacking_at-lacking.ensures low in
     refused c.from_residual-in_err-set_min.result (c.set_min.new.self ≡ pool) (c.in_err-set_min.ensures.unchanged ∙ (made ∙ same))

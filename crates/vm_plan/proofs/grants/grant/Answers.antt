@@ -78,7 +78,8 @@ loop-position-preserved c =
     record {
       pool = rw (whole, pushed) (one ∙ then ∙ sym (pool_after-push start moves position));
       each_next = rw pushed (each-push (λ before position. IsNextGrant c.args.state c.args.thresholds.now tax (pool_after start before) position) moves position c.loop-position.invariant.each_next last);
-      tracked = rw whole c.give_page-left.ensures.tracked;
+      rivals = rw whole c.give_page-left.ensures.rivals;
+      for_state = (λ none. c.loop-position.invariant.for_state.0 (c.give_page-left.ensures.none.0 none), λ high. c.give_page-left.ensures.none.1 (c.loop-position.invariant.for_state.1 high));
       wanting = rw whole c.give_page-left.ensures.wanting;
       few = rw whole (omega arith);
       targets = rw (whole, pushed) (omega (arith, length_push moves position, target-granted (rows_of rows) position wants.0, ap total_target given, c.loop-position.invariant.targets));

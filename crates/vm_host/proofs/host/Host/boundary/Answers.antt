@@ -1,4 +1,4 @@
-use Rattle.std.proofs.Common.{◌≡◌, ◌≢◌, ◌∙◌, ◌<◌, ℕ, List, ⊎_elim, ap, arith, inl, inr, length, map, refl, rules, string_bytes, subst, sym}
+use Rattle.std.proofs.Common.{◌≡◌, ◌≢◌, ◌∙◌, ◌<◌, ◌≤◌, ℕ, List, ⊎_elim, ap, arith, inl, inr, length, map, refl, rules, string_bytes, subst, sym}
 use Rattle.std.proofs.lemmas.List.{length-map}
 use Rattle.vm_host.specs.declared.phase.Phase.TheVariants.{Failed}
 use Rattle.vm_host.specs.Boundary.{boundary_of, bounded, FailsAfterSome}
@@ -10,6 +10,7 @@ use Rattle.vm_host.proofs.FailLemmas.{fails-from, fails-some, fails-whole}
 use Rattle.vm_host.proofs.FairnessLemmas.{fair-bounded}
 use Rattle.vm_host.proofs.KeptLemmas.{ready-bounded}
 use Rattle.vm_host.proofs.LineLemmas.{bounded-sound}
+use Rattle.vm_host.proofs.SoundLemmas.{few-domains}
 use Rattle.vm_reclaim.specs.Policy.{policy_of}
 use Rattle.vm_host.proofs.host.Host.boundary.Goals as goal
 
@@ -58,7 +59,7 @@ invariant_of-self c =
     let lines = map string_bytes c.as_slice.result.now in
     let fails : w.phase ≢ Failed = λ is. search rules in
     let sound = subst (λ (v : World). IsSoundWorld v) (sym c.in-Ok.ensures.done) (bounded-sound (policy_of w.machine) w lines (c.self.invariant.sound fails)) in
-    record { adds_up = sound.conserves; sound = λ _. sound; booked = λ _. c.in-Ok.ensures.booked }
+    record { few = few-domains _ sound; adds_up = sound.conserves; sound = λ _. sound; booked = λ _. c.in-Ok.ensures.booked }
 
 pub returns-in-Ok-clause-done : goal.returns-in-Ok-clause-done
 returns-in-Ok-clause-done c = c.in-Ok.ensures.done ∙ (λ j. bounded (c.self.view_is j) (c.as_slice.ensures j))
@@ -121,7 +122,9 @@ invariant_of-self-in-Err c =
     let w = world_of c.self.inside.parts in
     let fails : w.phase ≢ Failed = λ is. search rules in
     let failed = ap (λ (v : World). v.phase) c.fail.ensures.failed in
+    let from = fails-from w (world_of c.bound.new.parts) (world_of c.fail.new.parts) c.in-Err.ensures.kept c.fail.ensures.failed in
     record {
+      few = subst (λ (names : List (List ℕ)). length names ≤ 256) (sym from.names) c.self.invariant.few;
       adds_up = fails-whole w (world_of c.bound.new.parts) (world_of c.fail.new.parts) (c.self.invariant.sound fails) c.in-Err.ensures.kept c.fail.ensures.failed c.fail.ensures.adds_up;
       sound = λ no. absurd (no failed);
       booked = λ no. absurd (no failed);

@@ -1,0 +1,2 @@
+pub mod ViewLemmas
+pub mod NumberLemmas

@@ -1,0 +1,99 @@
+// From bytes to a value.
+ghost use Rattle.std.specs.Prelude.{◌≡◌, ◌<◌, length, Some, None, Err, IfOk};
+ghost use Rattle.std.specs.Str.{IsUtf8};
+ghost use Rattle.json.specs.Value.{items_view, members_view, value_view};
+ghost use Rattle.serde_json.specs.Read.{read as read_text};
+ghost use Rattle.vm_json.specs.View.{are_members_readable, are_readable, is_readable, json_of, view};
+ghost use Rattle.vm_json.specs.declared.error.ReadError.TheVariants.{Memory, NotJson};
+
+use crate::error::ReadError;
+use crate::number::is_in_range;
+use json::{Error, Reader, Scratch, Value};
+use std::alloc::Global;
+
+// How deep arrays and objects may nest.
+const MAX_DEPTH: usize = 127;
+
+/// The JSON value (RFC 8259) that bytes are.
+///
+/// Arrays and objects may nest 127 deep, and a number is to be an integer of 64 bits or round to a finite float. Texts are borrowed
+/// from the bytes, or, where they have escapes, from the scratch.
+pub fn read<'a>(
+    alloc: Global,
+    bytes: &'a [u8],
+    scratch: &'a mut Scratch,
+) -> Result<Value<'a>, ReadError>
+    ensures ok { IfOk result (λ v. IsUtf8 bytes.now × (read_text bytes.now ≡ Some (view v))) }
+    ensures refused { result ≡ Err NotJson → IsUtf8 bytes.now → read_text bytes.now ≡ None }
+    ensures memory { result ≡ Err Memory → 0 < length bytes.now }
+{
+    let Ok(text) = simdutf8::compat::from_utf8(bytes) else {
+        return Err(ReadError::NotJson);
+    };
+    let value = read_json(alloc, text, scratch)?;
+    if !is_readable(&value) {
+        return Err(ReadError::NotJson);
+    }
+    Ok(value)
+}
+
+// The value whose numbers may have any size.
+fn read_json<'a>(
+    alloc: Global,
+    text: &'a str,
+    scratch: &'a mut Scratch,
+) -> Result<Value<'a>, ReadError>
+    ensures ok { IfOk result (λ v. json_of text.now ≡ Some (value_view v)) }
+    ensures refused { result ≡ Err NotJson → json_of text.now ≡ None }
+    ensures memory { result ≡ Err Memory → 0 < length text.now }
+{
+    let Ok(mut reader) = Reader::new(text, scratch) else {
+        return Err(ReadError::Memory);
+    };
+    let value = match Value::read(alloc, &mut reader, MAX_DEPTH) {
+        Ok(value) => value,
+        Err(Error::OutOfMemory) => return Err(ReadError::Memory),
+        Err(_) => return Err(ReadError::NotJson),
+    };
+    if reader.next().is_some() {
+        return Err(ReadError::NotJson);
+    }
+    Ok(value)
+}
+
+// Whether each number of the value is in range.
+#[cycle(is_readable)]
+fn is_readable(value: &Value<'_>) -> bool
+    ensures { result ≡ is_readable (value_view value.now) }
+{
+    match value {
+        Value::Number(text) => is_in_range(*text),
+        Value::Array(items) => are_readable(items),
+        Value::Object(members) => are_members_readable(members),
+        Value::Null | Value::Bool(_) | Value::String(_) => true,
+    }
+}
+
+#[cycle(is_readable)]
+fn are_readable(items: &[Value<'_>]) -> bool
+    ensures { result ≡ are_readable (items_view items.now) }
+{
+    for item in items {
+        if !is_readable(item) {
+            return false;
+        }
+    }
+    true
+}
+
+#[cycle(is_readable)]
+fn are_members_readable(members: &[(&str, Value<'_>)]) -> bool
+    ensures { result ≡ are_members_readable (members_view members.now) }
+{
+    for (_, value) in members {
+        if !is_readable(value) {
+            return false;
+        }
+    }
+    true
+}
