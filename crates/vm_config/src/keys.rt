@@ -121,6 +121,7 @@ pub(crate) fn text_of<'a>(value: &Value<'a>) -> &'a str
 
 // ---- arrays
 
+// An empty list, for a key that is absent.
 fn no_values<'v, 'a>() -> &'v [Value<'a>]
     ensures { result.now ≡ [] }
 {

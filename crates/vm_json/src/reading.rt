@@ -18,6 +18,9 @@ const MAX_DEPTH: usize = 127;
 ///
 /// Arrays and objects may nest 127 deep, and a number is to be an integer of 64 bits or round to a finite float. Texts are borrowed
 /// from the bytes, or, where they have escapes, from the scratch.
+///
+/// [`ReadError::NotJson`] comes for bytes that are no UTF-8 (section 8.1), no JSON text, nest deeper, or have another number;
+/// [`ReadError::Memory`] only for some bytes.
 pub fn read<'a>(
     alloc: Global,
     bytes: &'a [u8],
