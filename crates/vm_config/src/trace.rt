@@ -1,5 +1,5 @@
 // The steps of a guest, read from their texts.
-ghost use Rattle.std.specs.Prelude.{◌≡◌, ◌≤◌, ◌↔◌, [], map, length, All, IfOk, IsTrue};
+ghost use Rattle.std.specs.Prelude.{◌≡◌, ◌≤◌, [], map, length, All, IfOk};
 ghost use Rattle.vm_json.specs.View.{view};
 ghost use Rattle.vm_trace.specs.Limits.{IsStep, IsWithin};
 ghost use Rattle.vm_config.specs.Keys.{text_of};
@@ -11,21 +11,7 @@ use crate::error::ConfigError;
 use crate::keys::text_of;
 use std::alloc::Global;
 use vm_json::Value;
-use vm_trace::{Action, Step, Trace, TraceError, parse_step_within};
-
-// Whether the step's page, if it has one, is one of a guest with this many pages.
-fn is_within(size: u32, step: &Step) -> bool
-    ensures within { IsTrue result ↔ IsWithin size step.now }
-    ensures limits { IsStep step.now }
-{
-    match step.action() {
-        Action::Read { page, .. } => page < size,
-        Action::Write { page, .. } => page < size,
-        Action::Free { page } => page < size,
-        Action::Idle => true,
-        Action::Post { .. } => true,
-    }
-}
+use vm_trace::{Step, Trace, TraceError, parse_step_within};
 
 // The step that a text is within these pages, for a guest with this many.
 fn step_in(pages: u32, size: u32, text: &str) -> Result<Step, TraceError>
@@ -36,7 +22,7 @@ fn step_in(pages: u32, size: u32, text: &str) -> Result<Step, TraceError>
     ensures bounded { IfOk result IsStep }
 {
     let step = parse_step_within(text, pages)?;
-    if !is_within(size, &step) {
+    if !step.is_within(size) {
         return Err(TraceError::Range);
     }
     Ok(step)
