@@ -17,7 +17,7 @@ state_of d = record {
   reports = d.reports.list;
   num_pages = d.num_pages;
   actual = d.actual;
-  stats = d.stats;
+  stats = d.reports.stats;
 }
 
 -- each page of the set is in the list, which has pages of the guest alone

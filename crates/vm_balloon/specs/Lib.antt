@@ -6,6 +6,7 @@ pub mod Posted
 pub mod BuffersFields
 pub mod PageQueue
 pub mod Device
+pub mod ReportsFields
 pub mod DeviceFields
 pub mod Lending
 pub mod PostErrorText

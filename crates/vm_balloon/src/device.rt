@@ -1,14 +1,15 @@
-ghost use Rattle.std.specs.Prelude.{◌≡◌, ◌+◌, ◌*◌, ◌<◌, ◌≤◌, ◌↔◌, ◌++◌, Err, All, true, false, IfOk, OnOk, OnErr, length, take, vec_capacity};
+ghost use Rattle.std.specs.Prelude.{◌≡◌, ◌+◌, ◌*◌, ◌<◌, ◌≤◌, ◌↔◌, ◌++◌, [], Err, All, true, false, IfOk, OnOk, OnErr, length, take, vec_capacity};
+ghost use Rattle.std.specs.Bool.{OnTrue};
 ghost use Rattle.std.specs.Borrow.{sem};
 ghost use Rattle.std.specs.Int.{w32, to_le_bytes};
 ghost use Rattle.vm_pages.specs.Pages.{contains, count, members, insert_all, remove_all};
 ghost use Rattle.vm_balloon.specs.Room.{HasRoomFor, KeepsRoom};
 ghost use Rattle.vm_balloon.specs.Service.{numbers_in, refused, inflated_by, deflated_by};
-ghost use Rattle.vm_balloon.specs.Device.{device_of, posted_count, with_posted, names, with_early_use, inflated, deflated, bad, last_stats, served, IsGood};
+ghost use Rattle.vm_balloon.specs.Device.{device_of, posted_count, with_posted, names, with_early_use, inflated, deflated, bad, served, IsGood};
 
-use crate::buffer::{Buffer, MOST_BYTES};
-use crate::buffers::Buffers;
+use crate::buffer::MOST_BYTES;
 use crate::page_queue::PageQueue;
+use crate::reports::Reports;
 use crate::service::{clear_listed, deflate, inflate, read_numbers};
 use crate::{PostError, Stats};
 use std::alloc::{AllocError, Global};
@@ -45,9 +46,9 @@ pub struct Served {
 ///
 /// Clauses read it as `DeviceState` of `specs/Device.antt`. Pages are of 4096 bytes and numbered from 0.
 ///
-/// No call but [`Device::new`] takes memory. `post` takes time for the bytes posted, `serve` for the bytes posted since the last
-/// service and the pages used early, and `list_ballooned` takes the time of [`PageSet::list_least`]; every other call takes
-/// constant time.
+/// No call but [`Device::new`] takes memory. `post` takes time for the bytes posted, `serve` for the bytes of page buffers posted
+/// since the last service and the pages used early, `stats` for the bytes of the statistics buffer that was served last, and
+/// `list_ballooned` takes the time of [`PageSet::list_least`]; every other call takes constant time.
 #[derive(Drop)]
 pub struct Device {
     size: u32,
@@ -58,10 +59,9 @@ pub struct Device {
     early_list: Vec<u32>,
     inflates: PageQueue,
     deflates: PageQueue,
-    reports: Buffers,
+    reports: Reports,
     num_pages: u32,
     actual: u32,
-    stats: Stats,
     // Page numbers while they are served.
     numbers: Vec<u32>,
     // The last service.
@@ -102,10 +102,9 @@ impl Device {
             early_list: Vec::with_capacity(alloc, size as usize)?,
             inflates: PageQueue::new(alloc, size, room)?,
             deflates: PageQueue::new(alloc, size, room)?,
-            reports: Buffers::new(alloc, room)?,
+            reports: Reports::new(alloc, room)?,
             num_pages: 0,
             actual: 0,
-            stats: Stats::default(),
             numbers: Vec::with_capacity(alloc, MOST_NUMBERS * room)?,
             served: Served {
                 inflated: Vec::with_capacity(alloc, MOST_NUMBERS * room)?,
@@ -181,7 +180,7 @@ impl Device {
     pub fn stats(&self) -> Stats
         ensures { result ≡ self.now.stats }
     {
-        self.stats
+        self.reports.stats()
     }
 
     /// How many pages are in the balloon.
@@ -274,15 +273,15 @@ impl Device {
             &mut self.served,
         );
         clear_listed(&mut self.early_list, &mut self.early);
-        self.stats = last_stats(self.stats, self.reports.as_slice());
         self.inflates.clear();
         self.deflates.clear();
-        self.reports.clear();
+        self.reports.serve();
         &self.served
     }
 }
 
 // Serves the page buffers: all inflate buffers, then all deflate buffers.
+#[tactic(auto, unfolding(crate::specs::Service::distinct))]
 fn serve_pages(
     inflates: &PageQueue,
     deflates: &PageQueue,
@@ -312,6 +311,10 @@ fn serve_pages(
     ensures inflated_room { KeepsRoom served.old.inflated served.new.inflated }
     ensures deflated_room { KeepsRoom served.old.deflated served.new.deflated }
 {
+    if none_posted(inflates, deflates) {
+        serve_none(served);
+        return;
+    }
     let size = inflates.size();
     let ragged_inflates = read_numbers(inflates.buffers(), numbers);
     inflate(numbers, size, balloon, &mut served.inflated);
@@ -322,12 +325,22 @@ fn serve_pages(
     served.bad = ragged_inflates + refused_inflates + (ragged_deflates + refused_deflates);
 }
 
-// The statistics once reports came, the last of which counts.
-fn last_stats(stats: Stats, reports: &[Buffer]) -> Stats
-    ensures { result ≡ last_stats stats reports.now }
+// Whether no page buffer is posted.
+fn none_posted(inflates: &PageQueue, deflates: &PageQueue) -> bool
+    ensures { OnTrue result ((inflates.now.buffers ≡ []) × (deflates.now.buffers ≡ [])) }
 {
-    match reports.last() {
-        Some(report) => Stats::in_buffer(report.bytes()),
-        None => stats,
-    }
+    inflates.buffers().is_empty() && deflates.buffers().is_empty()
+}
+
+// What a service did that found no page buffer.
+fn serve_none(served: &mut Served)
+    ensures inflated { served.new.inflated.items ≡ [] }
+    ensures deflated { served.new.deflated.items ≡ [] }
+    ensures bad { served.new.bad ≡ 0 }
+    ensures inflated_room { KeepsRoom served.old.inflated served.new.inflated }
+    ensures deflated_room { KeepsRoom served.old.deflated served.new.deflated }
+{
+    served.inflated.clear();
+    served.deflated.clear();
+    served.bad = 0;
 }

@@ -9,6 +9,7 @@ mod buffers;
 mod device;
 mod error;
 mod page_queue;
+mod reports;
 mod service;
 mod stats;
 #[cfg(test)]

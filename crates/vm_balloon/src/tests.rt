@@ -1,6 +1,7 @@
-ghost use Rattle.std.specs.Prelude.{◌≡◌};
+ghost use Rattle.std.specs.Prelude.{◌≡◌, ◌<◌};
 
 use crate::{Device, PostError, Queue, Stats, encode_page, encode_stat, page_at, stat_at};
+use std::alloc::Global;
 use std::process::Abort;
 use std::test::Fail;
 
@@ -14,24 +15,84 @@ fn check_service(rt: &impl Abort, device: &mut Device, inflated: &[u32], deflate
     assert_eq!(rt; served.bad, bad);
 }
 
+// Posts a buffer, and asserts that the device takes it.
+fn check_post(rt: &impl Abort, device: &mut Device, queue: Queue, bytes: &[u8])
+    ensures { device.new.size ≡ device.old.size }
+{
+    assert_eq!(rt; device.post(queue, bytes), Ok(()));
+}
+
+// Asserts how many pages are in the balloon.
+fn check_len(rt: &impl Abort, device: &Device, pages: u32) {
+    assert_eq!(rt; device.balloon_len(), pages);
+}
+
+// Asserts whether a page is named by an inflate buffer, and by a deflate buffer.
+fn check_posted(rt: &impl Abort, device: &Device, page: u32, inflate: bool, deflate: bool)
+    requires { page < device.now.size }
+{
+    let posted = (device.posted_inflate(page), device.posted_deflate(page));
+    assert_eq!(rt; posted, (inflate, deflate));
+}
+
+// Asserts whether a page is in the balloon, and whether it was used early.
+fn check_place(rt: &impl Abort, device: &Device, page: u32, ballooned: bool, early: bool)
+    requires { page < device.now.size }
+{
+    let place = (device.is_ballooned(page), device.is_early(page));
+    assert_eq!(rt; place, (ballooned, early));
+}
+
+// Asserts what the driver said last.
+fn check_stats(rt: &impl Abort, device: &Device, want: Stats) {
+    assert_eq!(rt; device.stats(), want);
+}
+
+// Asserts a refused post.
+fn check_refusal(rt: &impl Abort, device: &mut Device, queue: Queue, bytes: &[u8], why: PostError) {
+    assert_eq!(rt; device.post(queue, bytes), Err(why));
+}
+
+// Asserts the bytes of the configuration space.
+fn check_config(rt: &impl Abort, device: &Device, bytes: [u8; 8]) {
+    assert_eq!(rt; device.config(), bytes);
+}
+
+// Puts the last of four pages into the balloon, and uses it early.
+fn use_early(rt: &impl Abort, device: &mut Device)
+    requires { device.old.size ≡ 4 }
+    ensures { device.new.size ≡ 4 }
+{
+    check_post(rt, device, Queue::Inflate, &encode_page(3));
+    check_service(rt, device, &[3], &[], 0);
+    assert!(rt; device.is_ballooned(3));
+    assert!(rt; !device.posted_inflate(3));
+    device.use_early(3);
+    check_place(rt, device, 3, false, true);
+}
+
+// Posts a statistics buffer, and asserts what it says once it is served.
+fn check_report(rt: &impl Abort, device: &mut Device, report: &[u8], want: Stats) {
+    check_post(rt, device, Queue::Statistics, report);
+    check_service(rt, device, &[], &[], 0);
+    check_stats(rt, device, want);
+}
+
 #[test]
 fn service(rt: HostRuntime) -> Result<(), Fail> {
     let mut device = Device::new(rt.alloc(), 4, 2)?;
     let three_two_and_a_rest = [3, 0, 0, 0, 2, 0, 0, 0, 3];
-    assert_eq!(rt; device.post(Queue::Inflate, &three_two_and_a_rest), Ok(()));
+    check_post(&rt, &mut device, Queue::Inflate, &three_two_and_a_rest);
     check_service(&rt, &mut device, &[3, 2], &[], 1);
-    assert_eq!(rt; device.balloon_len(), 2);
+    check_len(&rt, &device, 2);
 
     let past_the_end_and_again = [255, 255, 255, 255, 3, 0, 0, 0];
-    assert_eq!(rt;
-        device.post(Queue::Inflate, &past_the_end_and_again),
-        Ok(())
-    );
+    check_post(&rt, &mut device, Queue::Inflate, &past_the_end_and_again);
     check_service(&rt, &mut device, &[], &[], 2);
 
-    assert_eq!(rt; device.post(Queue::Deflate, &encode_page(2)), Ok(()));
+    check_post(&rt, &mut device, Queue::Deflate, &encode_page(2));
     check_service(&rt, &mut device, &[], &[2], 0);
-    assert_eq!(rt; device.post(Queue::Deflate, &encode_page(2)), Ok(()));
+    check_post(&rt, &mut device, Queue::Deflate, &encode_page(2));
     check_service(&rt, &mut device, &[], &[], 1);
     Ok(())
 }
@@ -40,7 +101,7 @@ fn service(rt: HostRuntime) -> Result<(), Fail> {
 fn ballooned_pages_are_listed(rt: HostRuntime) -> Result<(), Fail> {
     let mut device = Device::new(rt.alloc(), 8, 2)?;
     let six_one_and_four = [6, 0, 0, 0, 1, 0, 0, 0, 4, 0, 0, 0];
-    assert_eq!(rt; device.post(Queue::Inflate, &six_one_and_four), Ok(()));
+    check_post(&rt, &mut device, Queue::Inflate, &six_one_and_four);
     check_service(&rt, &mut device, &[6, 1, 4], &[], 0);
     let mut pages = Vec::with_capacity(rt.alloc(), 4)?;
     device.list_ballooned(2, &mut pages);
@@ -55,42 +116,50 @@ fn ballooned_pages_are_listed(rt: HostRuntime) -> Result<(), Fail> {
 fn places_are_used_again(rt: HostRuntime) -> Result<(), Fail> {
     let mut device = Device::new(rt.alloc(), 8, 4)?;
     let six_one_and_four = [6, 0, 0, 0, 1, 0, 0, 0, 4, 0, 0, 0];
-    assert_eq!(rt; device.post(Queue::Inflate, &six_one_and_four), Ok(()));
-    assert_eq!(rt; device.post(Queue::Inflate, &encode_page(3)), Ok(()));
-    assert_eq!(rt;
-        device.post(Queue::Statistics, &[5, 0, 9, 0, 0, 0, 0, 0, 0, 0]),
-        Ok(())
+    check_post(&rt, &mut device, Queue::Inflate, &six_one_and_four);
+    check_post(&rt, &mut device, Queue::Inflate, &encode_page(3));
+    check_post(
+        &rt,
+        &mut device,
+        Queue::Statistics,
+        &[5, 0, 9, 0, 0, 0, 0, 0, 0, 0],
     );
     check_service(&rt, &mut device, &[6, 1, 4, 3], &[], 0);
     assert_eq!(rt; device.stats().total, Some(9));
 
-    assert_eq!(rt; device.post(Queue::Inflate, &encode_page(5)), Ok(()));
-    assert_eq!(rt; device.post(Queue::Statistics, &[5, 0]), Ok(()));
+    check_post(&rt, &mut device, Queue::Inflate, &encode_page(5));
+    check_post(&rt, &mut device, Queue::Statistics, &[5, 0]);
     check_service(&rt, &mut device, &[5], &[], 0);
-    assert_eq!(rt; device.stats(), Stats::default());
+    check_stats(&rt, &device, Stats::default());
 
     let two_and_seven = [2, 0, 0, 0, 7, 0, 0, 0];
-    assert_eq!(rt; device.post(Queue::Inflate, &[]), Ok(()));
-    assert_eq!(rt; device.post(Queue::Inflate, &two_and_seven), Ok(()));
-    assert_eq!(rt; device.post(Queue::Inflate, &encode_page(0)), Ok(()));
+    check_post(&rt, &mut device, Queue::Inflate, &[]);
+    check_post(&rt, &mut device, Queue::Inflate, &two_and_seven);
+    check_post(&rt, &mut device, Queue::Inflate, &encode_page(0));
     check_service(&rt, &mut device, &[2, 7, 0], &[], 0);
-    assert_eq!(rt; device.balloon_len(), 8);
+    check_len(&rt, &device, 8);
     Ok(())
 }
 
 #[test]
 fn refused_posts(rt: HostRuntime) -> Result<(), Fail> {
     let mut device = Device::new(rt.alloc(), 4, 2)?;
-    assert_eq!(rt; device.post(Queue::Inflate, &[]), Ok(()));
-    assert_eq!(rt;
-        device.post(Queue::Inflate, &[0; 1025]),
-        Err(PostError::TooLong)
+    check_post(&rt, &mut device, Queue::Inflate, &[]);
+    check_refusal(
+        &rt,
+        &mut device,
+        Queue::Inflate,
+        &[0; 1025],
+        PostError::TooLong,
     );
-    assert_eq!(rt; device.post(Queue::Statistics, &[0; 1024]), Ok(()));
-    assert_eq!(rt; device.post(Queue::Deflate, &[]), Err(PostError::Full));
-    assert_eq!(rt;
-        device.post(Queue::Deflate, &[0; 1025]),
-        Err(PostError::TooLong)
+    check_post(&rt, &mut device, Queue::Statistics, &[0; 1024]);
+    check_refusal(&rt, &mut device, Queue::Deflate, &[], PostError::Full);
+    check_refusal(
+        &rt,
+        &mut device,
+        Queue::Deflate,
+        &[0; 1025],
+        PostError::TooLong,
     );
     Ok(())
 }
@@ -99,50 +168,42 @@ fn refused_posts(rt: HostRuntime) -> Result<(), Fail> {
 #[test]
 fn inflates_first(rt: HostRuntime) -> Result<(), Fail> {
     let mut device = Device::new(rt.alloc(), 4, 2)?;
-    assert_eq!(rt; device.post(Queue::Inflate, &encode_page(2)), Ok(()));
-    assert_eq!(rt; device.post(Queue::Deflate, &encode_page(2)), Ok(()));
-    assert!(rt; device.posted_inflate(2));
-    assert!(rt; device.posted_deflate(2));
-    assert!(rt; !device.posted_deflate(3));
+    check_post(&rt, &mut device, Queue::Inflate, &encode_page(2));
+    check_post(&rt, &mut device, Queue::Deflate, &encode_page(2));
+    check_posted(&rt, &device, 2, true, true);
+    check_posted(&rt, &device, 3, false, false);
     check_service(&rt, &mut device, &[2], &[2], 0);
-    assert!(rt; !device.posted_inflate(2));
-    assert!(rt; !device.posted_deflate(2));
+    check_posted(&rt, &device, 2, false, false);
 
-    assert_eq!(rt; device.post(Queue::Deflate, &encode_page(2)), Ok(()));
-    assert_eq!(rt; device.post(Queue::Inflate, &encode_page(2)), Ok(()));
+    check_post(&rt, &mut device, Queue::Deflate, &encode_page(2));
+    check_post(&rt, &mut device, Queue::Inflate, &encode_page(2));
     check_service(&rt, &mut device, &[2], &[2], 0);
-    assert_eq!(rt; device.balloon_len(), 0);
+    check_len(&rt, &device, 0);
     Ok(())
 }
 
 #[test]
 fn no_page_in_it(rt: HostRuntime) -> Result<(), Fail> {
     let mut device = Device::new(rt.alloc(), 4, 20)?;
-    assert_eq!(rt; device.post(Queue::Inflate, &[255; 1024]), Ok(()));
+    check_post(&rt, &mut device, Queue::Inflate, &[255; 1024]);
     check_service(&rt, &mut device, &[], &[], 256);
     for queue in [Queue::Inflate, Queue::Deflate, Queue::Statistics] {
-        assert_eq!(rt; device.post(queue, &[]), Ok(()));
+        check_post(&rt, &mut device, queue, &[]);
     }
     check_service(&rt, &mut device, &[], &[], 0);
-    assert_eq!(rt; device.stats(), Stats::default());
+    check_stats(&rt, &device, Stats::default());
     Ok(())
 }
 
 #[test]
 fn early_use(rt: HostRuntime) -> Result<(), Fail> {
     let mut device = Device::new(rt.alloc(), 4, 2)?;
-    assert_eq!(rt; device.post(Queue::Inflate, &encode_page(3)), Ok(()));
-    device.serve();
-    assert!(rt; device.is_ballooned(3));
-    assert!(rt; !device.posted_inflate(3));
-    device.use_early(3);
-    assert!(rt; !device.is_ballooned(3));
-    assert!(rt; device.is_early(3));
-    assert_eq!(rt; device.balloon_len(), 0);
-    assert_eq!(rt; device.post(Queue::Deflate, &encode_page(3)), Ok(()));
+    use_early(&rt, &mut device);
+    check_len(&rt, &device, 0);
+    check_post(&rt, &mut device, Queue::Deflate, &encode_page(3));
     check_service(&rt, &mut device, &[], &[3], 0);
-    assert!(rt; !device.is_early(3));
-    assert_eq!(rt; device.post(Queue::Deflate, &encode_page(3)), Ok(()));
+    check_place(&rt, &device, 3, false, false);
+    check_post(&rt, &mut device, Queue::Deflate, &encode_page(3));
     check_service(&rt, &mut device, &[], &[], 1);
     Ok(())
 }
@@ -151,89 +212,115 @@ fn early_use(rt: HostRuntime) -> Result<(), Fail> {
 #[test]
 fn early_page_inflated(rt: HostRuntime) -> Result<(), Fail> {
     let mut device = Device::new(rt.alloc(), 4, 2)?;
-    assert_eq!(rt; device.post(Queue::Inflate, &encode_page(3)), Ok(()));
-    device.serve();
-    assert!(rt; device.is_ballooned(3));
-    assert!(rt; !device.posted_inflate(3));
-    device.use_early(3);
-    assert_eq!(rt; device.post(Queue::Inflate, &encode_page(3)), Ok(()));
-    assert!(rt; device.posted_inflate(3));
-    assert_eq!(rt; device.post(Queue::Deflate, &encode_page(3)), Ok(()));
+    use_early(&rt, &mut device);
+    check_post(&rt, &mut device, Queue::Inflate, &encode_page(3));
+    check_posted(&rt, &device, 3, true, false);
+    check_post(&rt, &mut device, Queue::Deflate, &encode_page(3));
     check_service(&rt, &mut device, &[3], &[3], 0);
-    assert_eq!(rt; device.balloon_len(), 0);
+    check_len(&rt, &device, 0);
 
     // Early is empty after a service, so this deflate is none of a page used early.
-    assert_eq!(rt; device.post(Queue::Deflate, &encode_page(3)), Ok(()));
+    check_post(&rt, &mut device, Queue::Deflate, &encode_page(3));
     check_service(&rt, &mut device, &[], &[], 1);
+    Ok(())
+}
+
+// Asserts how a refusal reads.
+fn check_words(rt: &impl Abort, alloc: Global, refusal: PostError, want: &str) -> Result<(), Fail> {
+    let words = refusal.to_string(alloc)?;
+    assert_eq!(rt; words.as_str(), want);
     Ok(())
 }
 
 #[test]
 fn refusals_read(rt: HostRuntime) -> Result<(), Fail> {
-    let alloc = rt.alloc();
-    assert_eq!(rt;
-        PostError::Full.to_string(alloc)?.as_str(),
-        "all buffers are posted"
-    );
-    assert_eq!(rt;
-        PostError::TooLong.to_string(alloc)?.as_str(),
-        "the buffer is too long"
-    );
+    check_words(&rt, rt.alloc(), PostError::Full, "all buffers are posted")?;
+    check_words(
+        &rt,
+        rt.alloc(),
+        PostError::TooLong,
+        "the buffer is too long",
+    )?;
     assert_eq!(rt; PostError::Full as u8, 1);
     assert_eq!(rt; PostError::TooLong as u8, 2);
     Ok(())
 }
 
+// The tag 99 is none of the seven. What a buffer leaves out is forgotten, and where several came, the last counts.
 #[test]
 fn statistics(rt: HostRuntime) -> Result<(), Fail> {
     let mut device = Device::new(rt.alloc(), 4, 2)?;
     let total = [5, 0, 0, 0, 1, 0, 0, 0, 0, 0];
-    assert_eq!(rt; device.post(Queue::Statistics, &total), Ok(()));
-    device.serve();
-    let mut want = Stats::default();
-    want.total = Some(65536);
-    assert_eq!(rt; device.stats(), want);
-
-    // The tag 99 is none of the seven. What a buffer leaves out is forgotten.
     let free_unknown_total = [
         4, 0, 0, 16, 0, 0, 0, 0, 0, 0, 99, 0, 1, 0, 0, 0, 0, 0, 0, 0, 5, 0, 0, 32, 0, 0, 0, 0, 0, 0,
     ];
-    assert_eq!(rt; device.post(Queue::Statistics, &total), Ok(()));
-    assert_eq!(rt; device.post(Queue::Statistics, &free_unknown_total), Ok(()));
-    device.serve();
+    let mut want = Stats::default();
+    want.total = Some(65536);
+    check_report(&rt, &mut device, &total, want);
+
     want.free = Some(4096);
     want.total = Some(8192);
-    assert_eq!(rt; device.stats(), want);
+    check_post(&rt, &mut device, Queue::Statistics, &total);
+    check_report(&rt, &mut device, &free_unknown_total, want);
+    Ok(())
+}
 
-    // A tag that comes twice takes the last value, and nine bytes are no entry.
+// A tag that comes twice takes the last value, and nine bytes are no entry.
+#[test]
+fn repeated_tags(rt: HostRuntime) -> Result<(), Fail> {
+    let mut device = Device::new(rt.alloc(), 4, 2)?;
     let twice_and_a_rest = [
         3, 0, 1, 0, 0, 0, 0, 0, 0, 0, 3, 0, 2, 0, 0, 0, 0, 0, 0, 0, 3, 0, 3, 0, 0, 0, 0, 0, 0,
     ];
-    assert_eq!(rt; device.post(Queue::Statistics, &twice_and_a_rest), Ok(()));
-    device.serve();
     let mut faults = Stats::default();
     faults.minor_faults = Some(2);
-    assert_eq!(rt; device.stats(), faults);
+    check_report(&rt, &mut device, &twice_and_a_rest, faults);
+    Ok(())
+}
+
+// What was said last stands until more is said, also over services that find no statistics.
+#[test]
+fn statistics_stay(rt: HostRuntime) -> Result<(), Fail> {
+    let mut device = Device::new(rt.alloc(), 4, 2)?;
+    let mut want = Stats::default();
+    want.total = Some(9);
+    check_report(&rt, &mut device, &[5, 0, 9, 0, 0, 0, 0, 0, 0, 0], want);
+    check_service(&rt, &mut device, &[], &[], 0);
+    check_stats(&rt, &device, want);
+    want.total = Some(7);
+    check_report(&rt, &mut device, &[5, 0, 7, 0, 0, 0, 0, 0, 0, 0], want);
+    check_service(&rt, &mut device, &[], &[], 0);
+    check_stats(&rt, &device, want);
     Ok(())
 }
 
 #[test]
-fn bytes(rt: HostRuntime) -> Result<(), Fail> {
+fn bytes(rt: HostRuntime) {
     assert_eq!(rt; encode_page(3), [3, 0, 0, 0]);
-    assert_eq!(rt; encode_stat(5, 65536), [5, 0, 0, 0, 1, 0, 0, 0, 0, 0]);
-    assert_eq!(rt; encode_stat(4, 4096), [4, 0, 0, 16, 0, 0, 0, 0, 0, 0]);
-    assert_eq!(rt; encode_stat(99, 1), [99, 0, 1, 0, 0, 0, 0, 0, 0, 0]);
-    assert_eq!(rt; encode_stat(5, 8192), [5, 0, 0, 32, 0, 0, 0, 0, 0, 0]);
-    assert_eq!(rt; page_at(&[3, 0, 0, 0, 2, 1, 0, 0, 7], 1), Some(258));
-    assert_eq!(rt; page_at(&[3, 0, 0, 0, 2, 1, 0, 0, 7], 2), None);
+    let entries = [
+        ((5, 65536), [5, 0, 0, 0, 1, 0, 0, 0, 0, 0]),
+        ((4, 4096), [4, 0, 0, 16, 0, 0, 0, 0, 0, 0]),
+        ((99, 1), [99, 0, 1, 0, 0, 0, 0, 0, 0, 0]),
+        ((5, 8192), [5, 0, 0, 32, 0, 0, 0, 0, 0, 0]),
+    ];
+    for ((tag, value), bytes) in entries {
+        assert_eq!(rt; encode_stat(tag, value), bytes);
+    }
+    let places = [(0, Some(3)), (1, Some(258)), (2, None)];
+    for (place, page) in places {
+        assert_eq!(rt; page_at(&[3, 0, 0, 0, 2, 1, 0, 0, 7], place), page);
+    }
     assert_eq!(rt; stat_at(&encode_stat(6, 1 << 40), 0), Some((6, 1 << 40)));
     assert_eq!(rt; stat_at(&encode_stat(6, 1), 1), None);
+}
 
+#[test]
+fn configuration(rt: HostRuntime) -> Result<(), Fail> {
     let mut device = Device::new(rt.alloc(), 4, 2)?;
-    assert_eq!(rt; device.config(), [0; 8]);
+    check_config(&rt, &device, [0; 8]);
     device.set_num_pages(258);
     device.set_actual(3);
-    assert_eq!(rt; device.config(), [2, 1, 0, 0, 3, 0, 0, 0]);
+    check_config(&rt, &device, [2, 1, 0, 0, 3, 0, 0, 0]);
     assert_eq!(rt; (device.num_pages(), device.actual()), (258, 3));
     Ok(())
 }

@@ -4,7 +4,8 @@ ghost use Rattle.std.specs.Prelude.{◌≡◌, ◌≤◌};
 mod limits;
 
 use super::*;
-use std::alloc::{AllocError, Global};
+use std::alloc::Global;
+use std::process::Abort;
 use std::test::Fail;
 
 const PERCENTS: Percents = Percents {
@@ -57,9 +58,18 @@ fn wanting(shares: u32, demand: u64) -> PlanRow
     }
 }
 
-/// The positions of a plan, in order.
-fn listed(alloc: Global, plan: &Plan) -> Result<Vec<u32>, AllocError> {
-    plan.moves().collect(alloc)
+/// Asserts the positions of a plan, in order.
+fn check_moves(rt: &impl Abort, alloc: Global, plan: &Plan, positions: &[u32]) -> Result<(), Fail> {
+    let listed: Vec<u32> = plan.moves().collect(alloc)?;
+    assert_eq!(rt; listed.as_slice(), positions);
+    Ok(())
+}
+
+/// Asserts how many frames a guest gives up.
+fn check_count(rt: &impl Abort, state: State, row: &PlanRow, page_rate: u32, count: u32)
+    requires { row.now.target ≤ row.now.held }
+{
+    assert_eq!(rt; page_count(state, row, page_rate), count);
 }
 
 #[test]
@@ -118,22 +128,12 @@ fn idle_memory_is_taxed(rt: HostRuntime) -> Result<(), Fail> {
     let rows = [row(100, 10, 2, ALL_ACTIVE), row(100, 5, 2, 0)];
     assert_eq!(rt; least(7500, &rows), Some(1));
     let plan = revoke(rt.alloc(), State::Soft, 3, &thresholds, 7500, &rows)?;
-    assert_eq!(rt;
-        listed(rt.alloc(), &plan)?.as_slice(),
-        [1, 1, 1, 0].as_slice()
-    );
+    check_moves(&rt, rt.alloc(), &plan, &[1, 1, 1, 0])?;
+    // Untaxed, and then in High.
     let plan = revoke(rt.alloc(), State::Soft, 3, &thresholds, 0, &rows)?;
-    assert_eq!(rt;
-        listed(rt.alloc(), &plan)?.as_slice(),
-        [0, 0, 0, 0].as_slice(),
-        "untaxed"
-    );
+    check_moves(&rt, rt.alloc(), &plan, &[0, 0, 0, 0])?;
     let plan = revoke(rt.alloc(), State::High, 3, &thresholds, 7500, &rows)?;
-    assert_eq!(rt;
-        listed(rt.alloc(), &plan)?.as_slice(),
-        [].as_slice(),
-        "in High"
-    );
+    check_moves(&rt, rt.alloc(), &plan, &[])?;
     Ok(())
 }
 
@@ -142,7 +142,7 @@ fn equal_prices_go_to_the_lower_position(rt: HostRuntime) -> Result<(), Fail> {
     let thresholds = Thresholds::of(100, PERCENTS);
     let rows = [row(100, 5, 1, ALL_ACTIVE), row(100, 5, 1, ALL_ACTIVE)];
     let plan = revoke(rt.alloc(), State::Soft, 5, &thresholds, 7500, &rows)?;
-    assert_eq!(rt; listed(rt.alloc(), &plan)?.as_slice(), [0, 1].as_slice());
+    check_moves(&rt, rt.alloc(), &plan, &[0, 1])?;
     Ok(())
 }
 
@@ -158,7 +158,7 @@ fn revocation_ends_at_the_minimum(rt: HostRuntime) -> Result<(), Fail> {
     let thresholds = Thresholds::of(100, PERCENTS);
     let rows = [row(100, 3, 2, ALL_ACTIVE)];
     let plan = revoke(rt.alloc(), State::Low, 0, &thresholds, 7500, &rows)?;
-    assert_eq!(rt; listed(rt.alloc(), &plan)?.as_slice(), [0].as_slice());
+    check_moves(&rt, rt.alloc(), &plan, &[0])?;
     Ok(())
 }
 
@@ -168,16 +168,13 @@ fn grants_go_to_the_greatest_price(rt: HostRuntime) -> Result<(), Fail> {
     let first = [wanting(300, 5), wanting(100, 0)];
     let second = [wanting(300, 0), wanting(100, 5)];
     let granted = grant(rt.alloc(), State::Soft, 3, &thresholds, 7500, &first)?;
-    assert_eq!(rt; listed(rt.alloc(), &granted)?.as_slice(), [0].as_slice());
+    check_moves(&rt, rt.alloc(), &granted, &[0])?;
     let granted = grant(rt.alloc(), State::Soft, 3, &thresholds, 7500, &second)?;
-    assert_eq!(rt; listed(rt.alloc(), &granted)?.as_slice(), [].as_slice());
+    check_moves(&rt, rt.alloc(), &granted, &[])?;
     let granted = grant(rt.alloc(), State::High, 10, &thresholds, 7500, &first)?;
-    assert_eq!(rt;
-        listed(rt.alloc(), &granted)?.as_slice(),
-        [0, 0, 0, 0, 0].as_slice()
-    );
+    check_moves(&rt, rt.alloc(), &granted, &[0, 0, 0, 0, 0])?;
     let granted = grant(rt.alloc(), State::Low, 10, &thresholds, 7500, &first)?;
-    assert_eq!(rt; listed(rt.alloc(), &granted)?.as_slice(), [].as_slice());
+    check_moves(&rt, rt.alloc(), &granted, &[])?;
     Ok(())
 }
 
@@ -187,9 +184,9 @@ fn equal_prices_go_on_growing(rt: HostRuntime) -> Result<(), Fail> {
     let equal = [wanting(110, 5), wanting(100, 0)];
     let below = [wanting(109, 5), wanting(100, 0)];
     let granted = grant(rt.alloc(), State::Soft, 3, &thresholds, 7500, &equal)?;
-    assert_eq!(rt; listed(rt.alloc(), &granted)?.as_slice(), [0].as_slice());
+    check_moves(&rt, rt.alloc(), &granted, &[0])?;
     let granted = grant(rt.alloc(), State::Soft, 3, &thresholds, 7500, &below)?;
-    assert_eq!(rt; listed(rt.alloc(), &granted)?.as_slice(), [].as_slice());
+    check_moves(&rt, rt.alloc(), &granted, &[])?;
     Ok(())
 }
 
@@ -200,12 +197,9 @@ fn free_frames_are_asked_for_where_none_moves(rt: HostRuntime) -> Result<(), Fai
     above.held = 15;
     let rows = [above];
     let granted = grant(rt.alloc(), State::High, 4, &thresholds, 7500, &rows)?;
-    assert_eq!(rt; listed(rt.alloc(), &granted)?.as_slice(), [].as_slice());
+    check_moves(&rt, rt.alloc(), &granted, &[])?;
     let granted = grant(rt.alloc(), State::High, 5, &thresholds, 7500, &rows)?;
-    assert_eq!(rt;
-        listed(rt.alloc(), &granted)?.as_slice(),
-        [0, 0, 0, 0, 0].as_slice()
-    );
+    check_moves(&rt, rt.alloc(), &granted, &[0, 0, 0, 0, 0])?;
     Ok(())
 }
 
@@ -215,16 +209,13 @@ fn grants_stop_at_the_cap_and_at_the_threshold(rt: HostRuntime) -> Result<(), Fa
     let mut capped = wanting(100, 5);
     capped.cap = 12;
     let granted = grant(rt.alloc(), State::High, 90, &thresholds, 7500, &[capped])?;
-    assert_eq!(rt; listed(rt.alloc(), &granted)?.as_slice(), [0, 0].as_slice());
+    check_moves(&rt, rt.alloc(), &granted, &[0, 0])?;
     let rows = [wanting(300, 5), wanting(100, 0)];
     let granted = grant(rt.alloc(), State::Hard, 3, &thresholds, 7500, &rows)?;
-    assert_eq!(rt; listed(rt.alloc(), &granted)?.as_slice(), [0, 0].as_slice());
+    check_moves(&rt, rt.alloc(), &granted, &[0, 0])?;
+    // Without a rival.
     let granted = grant(rt.alloc(), State::Hard, 3, &thresholds, 7500, &[rows[0]])?;
-    assert_eq!(rt;
-        listed(rt.alloc(), &granted)?.as_slice(),
-        [].as_slice(),
-        "without a rival"
-    );
+    check_moves(&rt, rt.alloc(), &granted, &[])?;
     Ok(())
 }
 
@@ -233,10 +224,10 @@ fn pages_are_counted(rt: HostRuntime) {
     let mut above = wanting(100, 0);
     above.held = 15;
     above.used = 12;
-    assert_eq!(rt; page_count(State::High, &above, 16), 0);
-    assert_eq!(rt; page_count(State::Soft, &above, 16), 2);
-    assert_eq!(rt; page_count(State::Hard, &above, 16), 5);
-    assert_eq!(rt; page_count(State::Low, &above, 4), 4);
+    check_count(&rt, State::High, &above, 16, 0);
+    check_count(&rt, State::Soft, &above, 16, 2);
+    check_count(&rt, State::Hard, &above, 16, 5);
+    check_count(&rt, State::Low, &above, 4, 4);
     assert!(rt; is_blocked(State::Low, &above));
     assert!(rt; !is_blocked(State::Hard, &above));
     assert!(rt; !is_blocked(State::Low, &wanting(100, 0)));
@@ -246,24 +237,15 @@ fn pages_are_counted(rt: HostRuntime) {
 fn so_many_pages_are_taken(rt: HostRuntime) -> Result<(), Fail> {
     let rows = [row(100, 10, 2, ALL_ACTIVE), row(100, 5, 2, 0)];
     let plan = revocations(rt.alloc(), 7500, 4, &rows)?;
-    assert_eq!(rt;
-        listed(rt.alloc(), &plan)?.as_slice(),
-        [1, 1, 1, 0].as_slice()
-    );
+    check_moves(&rt, rt.alloc(), &plan, &[1, 1, 1, 0])?;
+    // None are wanted.
     let plan = revocations(rt.alloc(), 7500, 0, &rows)?;
-    assert_eq!(rt;
-        listed(rt.alloc(), &plan)?.as_slice(),
-        [].as_slice(),
-        "none are wanted"
-    );
+    check_moves(&rt, rt.alloc(), &plan, &[])?;
     let plan = revocations(rt.alloc(), 7500, u64::MAX, &rows)?;
     assert_eq!(rt; plan.moves().count(), 11, "all are wanted");
+    // Without guests.
     let plan = revocations(rt.alloc(), 7500, 3, &[])?;
-    assert_eq!(rt;
-        listed(rt.alloc(), &plan)?.as_slice(),
-        [].as_slice(),
-        "without guests"
-    );
+    check_moves(&rt, rt.alloc(), &plan, &[])?;
     Ok(())
 }
 
@@ -272,13 +254,10 @@ fn the_greatest_demand_is_served_to_the_cap(rt: HostRuntime) -> Result<(), Fail>
     let thresholds = Thresholds::of(100, PERCENTS);
     let rows = [wanting(100, 0), wanting(100, u64::MAX)];
     let plan = grant(rt.alloc(), State::High, 90, &thresholds, 7500, &rows)?;
-    assert_eq!(rt; listed(rt.alloc(), &plan)?.as_slice(), [1; 10].as_slice());
+    check_moves(&rt, rt.alloc(), &plan, &[1; 10])?;
+    // Without guests.
     let plan = grant(rt.alloc(), State::High, 90, &thresholds, 7500, &[])?;
-    assert_eq!(rt;
-        listed(rt.alloc(), &plan)?.as_slice(),
-        [].as_slice(),
-        "without guests"
-    );
+    check_moves(&rt, rt.alloc(), &plan, &[])?;
     Ok(())
 }
 

@@ -1,7 +1,7 @@
 use Rattle.std.proofs.Common.{ap, ◌∙◌, length, arith}
 use Rattle.vm_pages.specs.Pages.{count}
 use Rattle.vm_pages.proofs.PageSets.{length-no_pages, count-no_pages}
-use Rattle.vm_balloon.specs.Posted.{PostedBuffers, PostedPages}
+use Rattle.vm_balloon.specs.Posted.{PostedPages, PostedReports}
 use Rattle.vm_balloon.proofs.DeviceLemmas.{AreApart-none, AreListed-none}
 use Rattle.vm_balloon.proofs.device.Device.new.Goals as goal
 
@@ -12,10 +12,10 @@ invariant_of-result c =
     let no_list = ap length c.in_ok-with_capacity.ensures.items in
     let no_inflates = ap (λ (q : PostedPages). length q.buffers) c.in_ok-new-3.ensures.queue in
     let no_deflates = ap (λ (q : PostedPages). length q.buffers) c.in_ok-new-4.ensures.queue in
-    let no_reports = ap (λ (b : PostedBuffers). length b.list) c.in_ok-new-5.ensures.buffers in
+    let no_reports = ap (λ (r : PostedReports). length r.list) c.in_ok-new-5.ensures.reports in
     let inflates_room = ap (λ (q : PostedPages). q.room) c.in_ok-new-3.ensures.queue in
     let deflates_room = ap (λ (q : PostedPages). q.room) c.in_ok-new-4.ensures.queue in
-    let reports_room = ap (λ (b : PostedBuffers). b.room) c.in_ok-new-5.ensures.buffers in
+    let reports_room = ap (λ (r : PostedReports). r.room) c.in_ok-new-5.ensures.reports in
     record {
       few_pages = c.requires.size_in_range;
       balloon_size = ap length c.in_ok-new.ensures.set ∙ length-no_pages size;

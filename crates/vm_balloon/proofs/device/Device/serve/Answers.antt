@@ -2,9 +2,9 @@ use Rattle.std.proofs.Common.{◌≡◌, ℕ, ◌+◌, ◌<◌, ap, subst, sym, 
 use Rattle.std.specs.Prelude.{All}
 use Rattle.vm_pages.specs.Pages.{contains, no_pages, insert_all, remove_all}
 use Rattle.vm_pages.proofs.PageSets.{contains-remove_all_before, count-le-length, length-no_pages}
-use Rattle.vm_balloon.specs.Device.{inflated, deflated, filled, last_stats}
+use Rattle.vm_balloon.specs.Device.{inflated, deflated, filled}
 use Rattle.vm_balloon.specs.DeviceFields.{state_of}
-use Rattle.vm_balloon.specs.Posted.{PostedBuffers, PostedPages}
+use Rattle.vm_balloon.specs.Posted.{PostedPages, PostedReports}
 use Rattle.vm_balloon.specs.Service.{numbers_in, deflated_by, refused}
 use Rattle.vm_balloon.proofs.DeviceLemmas.{AreApart-none, AreListed-none}
 use Rattle.vm_balloon.proofs.device.Device.serve.Goals as goal
@@ -31,10 +31,10 @@ invariant_of-self c =
     let no_list = ap length c.clear_listed.ensures.list in
     let no_inflates = ap (λ (q : PostedPages). length q.buffers) c.clear.ensures in
     let no_deflates = ap (λ (q : PostedPages). length q.buffers) c.clear-2.ensures in
-    let no_reports = ap (λ (b : PostedBuffers). length b.list) c.clear-3.ensures in
+    let no_reports = ap (λ (r : PostedReports). length r.list) c.serve.ensures in
     let inflates_room = ap (λ (q : PostedPages). q.room) c.clear.ensures in
     let deflates_room = ap (λ (q : PostedPages). q.room) c.clear-2.ensures in
-    let reports_room = ap (λ (b : PostedBuffers). b.room) c.clear-3.ensures in
+    let reports_room = ap (λ (r : PostedReports). r.room) c.serve.ensures in
     record {
       few_pages = old.few_pages;
       balloon_size = balloon_size;
@@ -68,8 +68,6 @@ returns c =
     done.balloon ∙ ap (λ taken. remove_all (insert_all inside.balloon taken) given) done.inflated ∙ ap (remove_all (filled state)) deflated_is in
     let early_is : c.clear_listed.new.pages ≡ no_pages inside.size =
     c.clear_listed.ensures.pages ∙ ap no_pages (done.same_early_size ∙ old.balloon_size) in
-    let stats_is : c.last_stats-self-inside.result ≡ last_stats inside.stats inside.reports.list =
-    c.last_stats-self-inside.ensures ∙ ap (last_stats inside.stats) c.as_slice.ensures in
     rw (← c.self.view_is) (
       (
         refl,
@@ -81,10 +79,10 @@ returns c =
           early = early_is i;
           inflates = (c.clear.ensures i).buffers;
           deflates = (c.clear-2.ensures i).buffers;
-          reports = (c.clear-3.ensures i).list;
+          reports = (c.serve.ensures i).list;
           num_pages = inside.num_pages;
           actual = inside.actual;
-          stats = stats_is i;
+          stats = (c.serve.ensures i).stats;
         }),
       ),
       record {
