@@ -278,6 +278,13 @@ impl Guest {
         self.parts.reads.as_slice()
     }
 
+    /// The page on which the guest stalled in its last epoch, if it did. Orders for the next one end that.
+    pub fn stalled(&self) -> Option<u32>
+        ensures { result ≡ self.now.guest.progress.stalled_on }
+    {
+        self.parts.progress.stalled_on
+    }
+
     /// What the driver said of the guest's memory in the statistics buffer that was served last (`virsh dommemstat`).
     pub fn stats(&self) -> Stats
         ensures { result ≡ self.now.guest.device.stats }

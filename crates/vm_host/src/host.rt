@@ -4,7 +4,7 @@ ghost use Rattle.vm_domains.specs.Domains.{place_of};
 ghost use Rattle.vm_guest.specs.Good.{IsGood};
 ghost use Rattle.vm_guest.specs.View.{view_of};
 ghost use Rattle.vm_pool.specs.Pool.{running_count, EachGuest, Conserves as AddsUp};
-ghost use Rattle.vm_pool.specs.Readers.{Peeks};
+ghost use Rattle.vm_pool.specs.Readers.{stalled_of, Peeks};
 ghost use Rattle.vm_reclaim.specs.Policy.{policy_of};
 ghost use Rattle.vm_plan.specs.declared.state.State.TheVariants.{High};
 ghost use Rattle.vm_host.specs.declared.host.HostError.TheVariants.{Memory as NoMemory, Failed as HasFailed};
@@ -231,6 +231,13 @@ impl Host {
         ensures { option_map (λ s. s.now) result ≡ option_map (λ g. g.reads) (guest_at self.now position) }
     {
         self.parts.pool.reads(position)
+    }
+
+    /// The page on which the guest at a position stalled in the last epoch, if one runs there and did. After a boundary there is none.
+    pub fn stalled(&self, position: usize) -> Option<u32>
+        ensures { result ≡ stalled_of (guest_at self.now position) }
+    {
+        self.parts.pool.stalled(position)
     }
 
     /// Copies a page of 4096 bytes of guest memory, wherever it is. It answers false, and copies nothing, exactly where no

@@ -6,7 +6,7 @@ ghost use Rattle.vm_guest.specs.Record.{reserve};
 ghost use Rattle.vm_guest.specs.View.{view_of};
 ghost use Rattle.vm_pool.specs.Changes.{after_epoch, all_changed, changed, freed, frames_to_grant, frames_to_start, granted_at, lacking, released_at, spares_of, started_at, stopped_at, surplus_of, waits_above, with_min_at, with_orders, with_released, with_spares_back, is_above_in, AreReleasable};
 ghost use Rattle.vm_pool.specs.Pool.{first_pool, guest_at, most_aside, overhead_frames, running_count, stopped_config, Conserves, EachGuest, HasTarget, IsRoomAt};
-ghost use Rattle.vm_pool.specs.Readers.{peeked, Peeks};
+ghost use Rattle.vm_pool.specs.Readers.{peeked, stalled_of, Peeks};
 ghost use Rattle.vm_pool.specs.declared.slot.Slot.TheVariants.{Stopped};
 
 use crate::aside::{put_back, set_aside};
@@ -157,6 +157,13 @@ impl Pool {
         ensures { option_map (λ s. s.now) result ≡ option_map (λ g. g.reads) (guest_at self.now position) }
     {
         Some(self.guest(position)?.reads())
+    }
+
+    /// The page on which the guest at a position stalled in its last epoch, if one runs there and did.
+    pub fn stalled(&self, position: usize) -> Option<u32>
+        ensures { result ≡ stalled_of (guest_at self.now position) }
+    {
+        self.guest(position)?.stalled()
     }
 
     /// What the driver of the guest at a position said last of its memory, if one runs there (`virsh dommemstat`).

@@ -148,7 +148,7 @@ impl Sampler {
     }
 }
 
-// So many hits as a fraction of all draws.
+// So many hits as a fraction of all draws. Mostly there are none, and then nothing is divided.
 fn fraction(hits: u32, draws: usize) -> u32
     requires some { 0 < draws }
     requires few { draws ≤ 1000 }
@@ -156,6 +156,9 @@ fn fraction(hits: u32, draws: usize) -> u32
     ensures value { result ≡ hits * whole / draws }
     ensures at_most_whole { result ≤ whole }
 {
+    if hits == 0 {
+        return 0;
+    }
     hits * WHOLE / draws as u32
 }
 

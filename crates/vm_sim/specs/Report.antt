@@ -12,6 +12,7 @@ use Rattle.vm_host.specs.World.{World, guest_at}
 use Rattle.vm_plan.specs.declared.stretch.Stretch.{Stretch}
 use Rattle.vm_plan.specs.Stretches.{stretches_of}
 use Rattle.vm_pool.specs.Pool.{total_held}
+use Rattle.vm_pool.specs.Readers.{stalled_of}
 use Rattle.vm_reclaim.specs.declared.told.Paged.{Paged}
 use Rattle.vm_reclaim.specs.Policy.{Policy}
 use Rattle.vm_sim.specs.Course.{Course, after_boundary, course_by, course_of, next_world, told_by_boundary, world_in}
@@ -66,16 +67,12 @@ abbrev pub reads_at : World → ℕ → List ℕ
 reads_at w position = read_lines (name_at w position) (guest_at w position)
 
 -- the page on which a guest stalled in the epoch, if it runs and did
-abbrev pub stall_in : Option GuestRecord → Option ℕ
-stall_in None = None
-stall_in (Some g) = g.progress.stalled_on
-
 abbrev pub stall_lines : List ℕ → Option ℕ → List ℕ
 stall_lines name None = []
 stall_lines name (Some page) = stall_line name page
 
 abbrev pub stall_at : World → ℕ → List ℕ
-stall_at w position = stall_lines (name_at w position) (stall_in (guest_at w position))
+stall_at w position = stall_lines (name_at w position) (stalled_of (guest_at w position))
 
 -- what a guest did in the epoch: its reads, in order, and then the page on which it stalled
 abbrev pub shown_at : World → ℕ → List ℕ

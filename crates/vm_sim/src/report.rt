@@ -1,7 +1,6 @@
 // The report, piece by piece.
 ghost use Rattle.std.specs.Prelude.{◌≡◌, ◌++◌, IfOk, OnOk, codes, string_bytes};
-ghost use Rattle.vm_host.specs.World.{guest_at};
-ghost use Rattle.vm_sim.specs.Report.{boundary_text, end_text, epoch_text, lines_at_end, machine_line, reads_at, shown_at, stall_at, stall_in};
+ghost use Rattle.vm_sim.specs.Report.{boundary_text, end_text, epoch_text, lines_at_end, machine_line, reads_at, shown_at, stall_at};
 
 use crate::lines::{push_guest, push_reads, push_stall, push_state};
 use crate::moves::{push_answers, push_blocked, push_moves, push_paged};
@@ -47,28 +46,21 @@ pub fn boundary_text(
 fn push_reads_at(text: &mut String, host: &Host, position: usize) -> Result<(), AllocError>
     ensures { OnOk result (string_bytes text.new ≡ string_bytes text.old ++ reads_at host.now position) }
 {
-    let name = host.name(position).unwrap_or("");
-    match host.reads(position) {
-        Some(reads) => push_reads(text, name, reads),
-        None => Ok(()),
+    let Some(reads) = host.reads(position) else {
+        return Ok(());
+    };
+    if reads.is_empty() {
+        return Ok(());
     }
-}
-
-// The page on which the guest at a position stalled in the last epoch, if one runs there and did.
-fn stall_in(host: &Host, position: usize) -> Option<u32>
-    ensures { result ≡ stall_in (guest_at host.now position) }
-{
-    let view = host.view(position)?;
-    view.stalled
+    push_reads(text, host.name(position).unwrap_or(""), reads)
 }
 
 // The stall of the guest at a position, if there was one.
 fn push_stall_at(text: &mut String, host: &Host, position: usize) -> Result<(), AllocError>
     ensures { OnOk result (string_bytes text.new ≡ string_bytes text.old ++ stall_at host.now position) }
 {
-    let name = host.name(position).unwrap_or("");
-    match stall_in(host, position) {
-        Some(page) => push_stall(text, name, page),
+    match host.stalled(position) {
+        Some(page) => push_stall(text, host.name(position).unwrap_or(""), page),
         None => Ok(()),
     }
 }

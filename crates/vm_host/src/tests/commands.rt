@@ -1,5 +1,8 @@
 // What becomes of command lines.
-use super::lone_host::{LoneHost, Told, assert_answers, frames_of, quiet, told_by};
+use super::lone_host::{
+    LoneHost, Told, assert_answers, assert_frames, assert_free, assert_reads, assert_told,
+    frames_of, quiet, told_by,
+};
 use super::setup::{add_guest, guest, machine, read};
 use crate::{DomainStatistics, Domains, MachineSpec, Outcome, Refusal, State, Stats};
 use std::test::Fail;
@@ -83,9 +86,9 @@ fn lowered_reserves(rt: HostRuntime) -> Result<(), Fail> {
         granted: [8, 0],
         ..quiet(State::High, 92)
     };
-    assert_eq!(rt; told_by(&boundary), wanted);
-    assert_eq!(rt; frames_of(lone.host(), 0), Some((16, 16)));
-    assert_eq!(rt; lone.host().free(), 84);
+    assert_told(&rt, &boundary, wanted);
+    assert_frames(&rt, lone.host(), 0, Some((16, 16)));
+    assert_free(&rt, lone.host(), 84);
     lone.close();
     Ok(())
 }
@@ -125,9 +128,9 @@ fn sizes(rt: HostRuntime) -> Result<(), Fail> {
         granted: [45, 0],
         ..quiet(State::High, 800)
     };
-    assert_eq!(rt; told_by(&boundary), wanted);
-    assert_eq!(rt; frames_of(lone.host(), 0), Some((245, 245)));
-    assert_eq!(rt; lone.host().free(), 755);
+    assert_told(&rt, &boundary, wanted);
+    assert_frames(&rt, lone.host(), 0, Some((245, 245)));
+    assert_free(&rt, lone.host(), 755);
     lone.close();
     Ok(())
 }
@@ -145,8 +148,8 @@ fn restart(rt: HostRuntime) -> Result<(), Fail> {
     let wanted_read = [read(0, &[0xff, 0, 0, 0])];
     let mut lone = LoneHost::new(&rt, machine(100, 0), domains);
     let boundary = lone.round(&rt, &["start web"]);
-    assert_eq!(rt; told_by(&boundary), quiet(State::High, 96));
-    assert_eq!(rt; lone.host().reads(0), Some(wanted_read.as_slice()));
+    assert_told(&rt, &boundary, quiet(State::High, 96));
+    assert_reads(&rt, lone.host(), &wanted_read);
     let boundary = lone.round(
         &rt,
         &["destroy web", "destroy web", "start web", "start web"],
@@ -158,8 +161,8 @@ fn restart(rt: HostRuntime) -> Result<(), Fail> {
         ("start web", Outcome::Refused(Refusal::AlreadyRunning)),
     ];
     assert_answers(&rt, &boundary, &wanted);
-    assert_eq!(rt; told_by(&boundary), quiet(State::High, 96));
-    assert_eq!(rt; lone.host().reads(0), Some(wanted_read.as_slice()));
+    assert_told(&rt, &boundary, quiet(State::High, 96));
+    assert_reads(&rt, lone.host(), &wanted_read);
     lone.close();
     Ok(())
 }

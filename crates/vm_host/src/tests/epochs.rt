@@ -1,5 +1,8 @@
 // Epochs, and what is read of a host after them.
-use super::lone_host::{LoneHost, assert_answers, first_byte, quiet, steps_done, told_by};
+use super::lone_host::{
+    LoneHost, assert_answers, assert_first_byte, assert_reads, assert_told, first_byte, quiet,
+    steps_done,
+};
 use super::setup::{add_guest, guest, machine, read};
 use crate::{Domains, Gate, HostError, Lines, MachineSpec, Open, Outcome, State};
 use std::sync::atomic::{AtomicU64, Ordering};
@@ -24,9 +27,9 @@ fn first_read(rt: HostRuntime) -> Result<(), Fail> {
 
     let boundary = lone.round(&rt, &["start web"]);
     assert_answers(&rt, &boundary, &[("start web", Outcome::Done)]);
-    assert_eq!(rt; told_by(&boundary), quiet(State::High, 96));
+    assert_told(&rt, &boundary, quiet(State::High, 96));
     let host = lone.host();
-    assert_eq!(rt; host.reads(0), Some(wanted_read.as_slice()));
+    assert_reads(&rt, host, &wanted_read);
     let view = host.view(0).expect(&rt, "it runs");
     assert_eq!(rt; (view.target, view.held, view.swapped), (4, 4, 0));
     assert_eq!(rt; (view.balloon, view.active, view.bad), (0, 65536, 0));
@@ -41,9 +44,9 @@ fn first_read(rt: HostRuntime) -> Result<(), Fail> {
         (1, Some("web"), None)
     );
     assert_eq!(rt; (host.position("web"), host.position("c")), (Some(0), None));
-    assert_eq!(rt; first_byte(host, "web", 0), Some(0xff));
-    assert_eq!(rt; first_byte(host, "web", 4), None);
-    assert_eq!(rt; first_byte(host, "c", 0), None);
+    assert_first_byte(&rt, host, "web", 0, Some(0xff));
+    assert_first_byte(&rt, host, "web", 4, None);
+    assert_first_byte(&rt, host, "c", 0, None);
     lone.close();
     Ok(())
 }
@@ -95,7 +98,7 @@ fn two_tickets_at_once(rt: HostRuntime) -> Result<(), Fail> {
     let mut lone = LoneHost::new(&rt, machine, domains);
     let gate = nobody_met();
     let boundary = lone.boundary(&rt, &["start a", "start b"]);
-    assert_eq!(rt; told_by(&boundary), quiet(State::Low, 0));
+    assert_told(&rt, &boundary, quiet(State::Low, 0));
     lone.epoch(&rt, &gate, 2);
     lone.close();
     assert!(rt; gate.met[0].load(Ordering::SeqCst) == 1 && gate.met[1].load(Ordering::SeqCst) == 1);
@@ -113,7 +116,7 @@ fn where_memory_is_refused_frames_add_up(rt: HostRuntime) -> Result<(), Fail> {
     let mut lone = LoneHost::new(&rt, machine(16, 4), domains);
     if let Err(error) = lone.try_boundary(&rt, &lines) {
         assert_eq!(rt; error, HostError::Memory);
-        assert_eq!(rt; first_byte(lone.host(), "a", 0), None);
+        assert_first_byte(&rt, lone.host(), "a", 0, None);
         let again = lone.try_boundary(&rt, &lines).err();
         assert_eq!(rt; again, Some(HostError::Failed));
         let again = lone.try_epoch(&rt, &Open, 2).err();

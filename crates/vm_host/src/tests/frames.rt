@@ -1,5 +1,8 @@
 // How a host divides its frames.
-use super::lone_host::{LoneHost, Told, assert_answers, frames_of, quiet, taken_for, told_by};
+use super::lone_host::{
+    LoneHost, Told, assert_answers, assert_frames, assert_free, assert_reads, assert_told, quiet,
+    taken_for, told_by,
+};
 use super::setup::{Shape, add_guest, guest, machine, read};
 use crate::{Domains, MachineSpec, Outcome, Paged, State};
 use std::test::Fail;
@@ -28,7 +31,7 @@ fn host_alone(rt: HostRuntime) -> Result<(), Fail> {
 
     let first = lone.host().view(0).expect(&rt, "it runs");
     assert_eq!(rt; (first.target, first.held, first.balloon), (91, 91, 9));
-    assert_eq!(rt; frames_of(lone.host(), 1), Some((2, 2)));
+    assert_frames(&rt, lone.host(), 1, Some((2, 2)));
     lone.close();
     Ok(())
 }
@@ -66,22 +69,22 @@ fn low_and_back(rt: HostRuntime) -> Result<(), Fail> {
         blocked: Some(0),
         ..quiet(State::Low, 0)
     };
-    assert_eq!(rt; told_by(&second), wanted);
+    assert_told(&rt, &second, wanted);
 
     let third = told_by(&lone.round(&rt, &[]));
     assert_eq!(rt; third, quiet(State::Hard, 7));
-    assert_eq!(rt; lone.host().reads(0), Some([read(0, &[0])].as_slice()));
+    assert_reads(&rt, lone.host(), &[read(0, &[0])]);
     let fourth = told_by(&lone.round(&rt, &[]));
     assert_eq!(rt; fourth, quiet(State::Soft, 7));
-    assert_eq!(rt; lone.host().reads(0), Some([read(1, &[0])].as_slice()));
+    assert_reads(&rt, lone.host(), &[read(1, &[0])]);
 
     let first = lone.host().view(0).expect(&rt, "it runs");
     assert_eq!(rt;
         (first.target, first.held, first.balloon, first.done),
         (88, 88, 12, 3)
     );
-    assert_eq!(rt; frames_of(lone.host(), 1), Some((5, 5)));
-    assert_eq!(rt; lone.host().free(), 7);
+    assert_frames(&rt, lone.host(), 1, Some((5, 5)));
+    assert_free(&rt, lone.host(), 7);
     lone.close();
     Ok(())
 }
@@ -120,13 +123,13 @@ fn raised_minimum(rt: HostRuntime) -> Result<(), Fail> {
         }),
         ..quiet(State::Low, 0)
     };
-    assert_eq!(rt; told_by(&second), wanted);
+    assert_told(&rt, &second, wanted);
 
     let first = lone.host().view(0).expect(&rt, "it runs");
     assert_eq!(rt; (first.target, first.held, first.balloon), (77, 77, 0));
     let second = lone.host().view(1).expect(&rt, "it runs");
     assert_eq!(rt; (second.target, second.held, second.balloon), (16, 16, 14));
-    assert_eq!(rt; lone.host().free(), 7);
+    assert_free(&rt, lone.host(), 7);
     lone.close();
     Ok(())
 }

@@ -1,5 +1,5 @@
 // A host without domains.
-use super::lone_host::{LoneHost, assert_answers, quiet, told_by};
+use super::lone_host::{LoneHost, assert_answers, assert_told, quiet};
 use super::setup::machine;
 use crate::{Domains, Open, Outcome, Refusal, State};
 
@@ -11,7 +11,7 @@ fn a_host_without_domains_goes_on(rt: HostRuntime) {
         let boundary = lone.boundary(&rt, &["start a"]);
         let refused = Outcome::Refused(Refusal::NoSuchDomain);
         assert_answers(&rt, &boundary, &[("start a", refused)]);
-        assert_eq!(rt; told_by(&boundary), quiet(State::High, 100));
+        assert_told(&rt, &boundary, quiet(State::High, 100));
         lone.epoch(&rt, &Open, workers);
     }
     assert_eq!(rt; (lone.host().len(), lone.host().free()), (0, 100));

@@ -2,7 +2,8 @@
 ghost use Rattle.std.specs.Prelude.{◌≤◌};
 
 use crate::{
-    Boundary, Domains, Gate, Host, HostError, Lines, MachineSpec, Open, Outcome, Paged, Plan, State,
+    Boundary, Domains, Gate, Host, HostError, Lines, MachineSpec, Open, Outcome, PageRead, Paged,
+    Plan, State,
 };
 use std::process::Abort;
 use std::thread::Threads;
@@ -188,4 +189,40 @@ pub(super) fn first_byte(host: &Host, name: &str, page: u32) -> Option<u8> {
     } else {
         None
     }
+}
+
+// Asserts what a boundary told.
+pub(super) fn assert_told(rt: &impl Abort, boundary: &Boundary, told: Told) {
+    assert_eq!(rt; told_by(boundary), told);
+}
+
+// Asserts the target of a guest, and the frames that it holds.
+pub(super) fn assert_frames(
+    rt: &impl Abort,
+    host: &Host,
+    position: usize,
+    frames: Option<(u32, u32)>,
+) {
+    assert_eq!(rt; frames_of(host, position), frames);
+}
+
+// Asserts the first byte of a page, or that it can't be seen.
+pub(super) fn assert_first_byte(
+    rt: &impl Abort,
+    host: &Host,
+    name: &str,
+    page: u32,
+    byte: Option<u8>,
+) {
+    assert_eq!(rt; first_byte(host, name, page), byte);
+}
+
+// Asserts the reads of the first guest, which runs.
+pub(super) fn assert_reads(rt: &impl Abort, host: &Host, reads: &[PageRead]) {
+    assert_eq!(rt; host.reads(0), Some(reads));
+}
+
+// Asserts how many frames are free.
+pub(super) fn assert_free(rt: &impl Abort, host: &Host, frames: u32) {
+    assert_eq!(rt; host.free(), frames);
 }
