@@ -119,6 +119,16 @@ fn is_blocked(pool: &Pool, position: usize) -> Option<bool> {
     Some(pool.view(position)?.blocked)
 }
 
+// Asserts that the first guest may run, or may not.
+fn check_blocked(rt: &impl Abort, pool: &Pool, blocked: bool) {
+    assert_eq!(rt; is_blocked(pool, 0), Some(blocked));
+}
+
+// Asserts the target of the first guest, the frames that it holds, and how many are free.
+fn check_frames(rt: &impl Abort, pool: &Pool, frames: (u32, u32), free: u32) {
+    assert_eq!(rt; (frames_of(pool, 0), pool.free()), (Some(frames), free));
+}
+
 // Sets the minimum of a guest.
 fn set_min(rt: &impl Abort, pool: &mut Pool, position: usize, least: u32) {
     assert!(rt; sets_min(rt, pool, position, least));
@@ -162,9 +172,9 @@ fn frames_move_and_add_up(rt: HostRuntime) -> Result<(), Fail> {
     );
 
     grant(&rt, &mut pool, 0);
-    assert_eq!(rt; (frames_of(&pool, 0), pool.free()), (Some((5, 5)), 9));
+    check_frames(&rt, &pool, (5, 5), 9);
     take_back(&rt, &mut pool, 0);
-    assert_eq!(rt; (frames_of(&pool, 0), pool.free()), (Some((4, 4)), 10));
+    check_frames(&rt, &pool, (4, 4), 10);
     set_min(&rt, &mut pool, 0, 7);
     assert_eq!(rt;
         (frames_of(&pool, 0), pool.free(), pool.reserve(0)),
@@ -193,7 +203,7 @@ fn a_guest_above_its_target_waits(rt: HostRuntime) -> Result<(), Fail> {
     grant(&rt, &mut pool, 0);
     grant(&rt, &mut pool, 0);
     set_cap(&rt, &mut pool, 0, 5);
-    assert_eq!(rt; (frames_of(&pool, 0), pool.free()), (Some((5, 6)), 8));
+    check_frames(&rt, &pool, (5, 6), 8);
     pool.order_all(true);
     assert_eq!(rt;
         (is_blocked(&pool, 0), is_blocked(&pool, 1)),
@@ -202,7 +212,7 @@ fn a_guest_above_its_target_waits(rt: HostRuntime) -> Result<(), Fail> {
     run(&rt, &Open, 2, &mut pool);
     assert_eq!(rt; (done(&pool, 0), pool.free()), (Some(0), 9));
     pool.order_all(true);
-    assert_eq!(rt; is_blocked(&pool, 0), Some(false));
+    check_blocked(&rt, &pool, false);
     run(&rt, &Open, 2, &mut pool);
     assert_eq!(rt; done(&pool, 0), Some(1));
     pool.close();
@@ -217,11 +227,11 @@ fn all_guests_at_once(rt: HostRuntime) -> Result<(), Fail> {
     start(&rt, &mut pool, 1);
     grant(&rt, &mut pool, 0);
     set_cap(&rt, &mut pool, 0, 4);
-    assert_eq!(rt; (frames_of(&pool, 0), pool.free()), (Some((4, 5)), 11));
+    check_frames(&rt, &pool, (4, 5), 11);
     pool.order_all(false);
-    assert_eq!(rt; is_blocked(&pool, 0), Some(false));
+    check_blocked(&rt, &pool, false);
     release_first(&rt, &mut pool);
-    assert_eq!(rt; (frames_of(&pool, 0), pool.free()), (Some((4, 4)), 12));
+    check_frames(&rt, &pool, (4, 4), 12);
     assert_eq!(rt;
         (frames_of(&pool, 1), pool.stats(1).is_some()),
         (Some((4, 4)), true)
@@ -271,6 +281,12 @@ fn done(pool: &Pool, position: usize) -> Option<u32> {
     Some(pool.view(position)?.done)
 }
 
+// Asserts how many steps the first guest and the second have done.
+fn check_done(rt: &impl Abort, pool: &Pool, steps: [u32; 2]) {
+    let [first, second] = steps;
+    assert_eq!(rt; (done(pool, 0), done(pool, 1)), (Some(first), Some(second)));
+}
+
 #[test]
 fn two_tickets_at_once(rt: HostRuntime) -> Result<(), Fail> {
     let mut pool = two_guests(&rt, 0)?;
@@ -279,7 +295,7 @@ fn two_tickets_at_once(rt: HostRuntime) -> Result<(), Fail> {
     let gate = nobody_met();
     run(&rt, &gate, 2, &mut pool);
     assert!(rt; gate.met[0].load(Ordering::SeqCst) == 1 && gate.met[1].load(Ordering::SeqCst) == 1);
-    assert_eq!(rt; (done(&pool, 0), done(&pool, 1)), (Some(1), Some(0)));
+    check_done(&rt, &pool, [1, 0]);
     pool.close();
     Ok(())
 }
@@ -337,7 +353,7 @@ fn one_worker_serves_in_order(rt: HostRuntime) -> Result<(), Fail> {
     let both = no_passages();
     run(&rt, &both, 1, &mut pool);
     assert_eq!(rt; passed(&both), [1, 2, 3, 4]);
-    assert_eq!(rt; (done(&pool, 0), done(&pool, 1)), (Some(1), Some(0)));
+    check_done(&rt, &pool, [1, 0]);
     pool.close();
     Ok(())
 }

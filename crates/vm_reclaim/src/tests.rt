@@ -203,6 +203,27 @@ fn frames_of(pool: &Pool, position: usize) -> Option<(u32, u32)> {
     Some((view.target, view.held))
 }
 
+// Starts a guest, and asserts how many pages of the first guest's target fell for it.
+fn check_start(
+    rt: &(impl AllocGlobal + Abort),
+    numbers: &Numbers,
+    pool: &mut Pool,
+    position: usize,
+    taken: usize,
+) {
+    assert_eq!(rt; start(rt, numbers, pool, position), taken);
+}
+
+// Asserts what a boundary told.
+fn check_told(rt: &impl Abort, told: Told, wanted: Told) {
+    assert_eq!(rt; told, wanted);
+}
+
+// Asserts the target of a guest, and the frames that it holds.
+fn check_frames(rt: &impl Abort, pool: &Pool, position: usize, frames: (u32, u32)) {
+    assert_eq!(rt; frames_of(pool, position), Some(frames));
+}
+
 #[test]
 fn a_second_guest_takes_its_frames_from_the_first(rt: HostRuntime) -> Result<(), Fail> {
     let alloc = rt.alloc();
@@ -212,28 +233,28 @@ fn a_second_guest_takes_its_frames_from_the_first(rt: HostRuntime) -> Result<(),
         100,
         [guest_of(alloc, 100, 10, 1000), guest_of(alloc, 2, 2, 1000)],
     )?;
-    assert_eq!(rt; start(&rt, &numbers, &mut pool, 0), 0);
+    check_start(&rt, &numbers, &mut pool, 0, 0);
     let first = settle(&rt, &numbers, &mut pool, State::High);
     let wanted = Told {
         granted: [86, 0],
         ..quiet(State::High, 90)
     };
-    assert_eq!(rt; first, wanted);
+    check_told(&rt, first, wanted);
 
     next_epoch(&rt, &mut pool);
-    assert_eq!(rt; start(&rt, &numbers, &mut pool, 1), 0);
+    check_start(&rt, &numbers, &mut pool, 1, 0);
     let second = settle(&rt, &numbers, &mut pool, first.state);
     let wanted = Told {
         revoked: [5, 0],
         ..quiet(State::Soft, 2)
     };
-    assert_eq!(rt; second, wanted);
+    check_told(&rt, second, wanted);
 
     next_epoch(&rt, &mut pool);
     let third = settle(&rt, &numbers, &mut pool, second.state);
-    assert_eq!(rt; third, quiet(State::High, 7));
-    assert_eq!(rt; frames_of(&pool, 0), Some((91, 91)));
-    assert_eq!(rt; frames_of(&pool, 1), Some((2, 2)));
+    check_told(&rt, third, quiet(State::High, 7));
+    check_frames(&rt, &pool, 0, (91, 91));
+    check_frames(&rt, &pool, 1, (2, 2));
     pool.close();
     Ok(())
 }
@@ -247,13 +268,13 @@ fn in_low_a_guest_is_paged_and_waits(rt: HostRuntime) -> Result<(), Fail> {
         100,
         [guest_of(alloc, 100, 10, 1000), guest_of(alloc, 5, 5, 1000)],
     )?;
-    assert_eq!(rt; start(&rt, &numbers, &mut pool, 0), 0);
+    check_start(&rt, &numbers, &mut pool, 0, 0);
     let first = settle(&rt, &numbers, &mut pool, State::High);
     assert_eq!(rt; first.granted, [86, 0]);
 
     // The second guest lacks a frame.
     next_epoch(&rt, &mut pool);
-    assert_eq!(rt; start(&rt, &numbers, &mut pool, 1), 1);
+    check_start(&rt, &numbers, &mut pool, 1, 1);
     let second = settle(&rt, &numbers, &mut pool, first.state);
     let wanted = Told {
         revoked: [7, 0],
@@ -261,15 +282,15 @@ fn in_low_a_guest_is_paged_and_waits(rt: HostRuntime) -> Result<(), Fail> {
         blocked: true,
         ..quiet(State::Low, 0)
     };
-    assert_eq!(rt; second, wanted);
+    check_told(&rt, second, wanted);
 
     next_epoch(&rt, &mut pool);
     let third = settle(&rt, &numbers, &mut pool, second.state);
-    assert_eq!(rt; third, quiet(State::Hard, 7));
+    check_told(&rt, third, quiet(State::Hard, 7));
     next_epoch(&rt, &mut pool);
     let fourth = settle(&rt, &numbers, &mut pool, third.state);
-    assert_eq!(rt; fourth, quiet(State::Soft, 7));
-    assert_eq!(rt; frames_of(&pool, 0), Some((88, 88)));
+    check_told(&rt, fourth, quiet(State::Soft, 7));
+    check_frames(&rt, &pool, 0, (88, 88));
     pool.close();
     Ok(())
 }
@@ -283,14 +304,14 @@ fn a_raised_minimum_takes_from_the_other_guest(rt: HostRuntime) -> Result<(), Fa
         100,
         [guest_of(alloc, 90, 10, 1000), guest_of(alloc, 20, 2, 1)],
     )?;
-    assert_eq!(rt; start(&rt, &numbers, &mut pool, 0), 0);
-    assert_eq!(rt; start(&rt, &numbers, &mut pool, 1), 0);
+    check_start(&rt, &numbers, &mut pool, 0, 0);
+    check_start(&rt, &numbers, &mut pool, 1, 0);
     let first = settle(&rt, &numbers, &mut pool, State::High);
     let wanted = Told {
         granted: [80, 4],
         ..quiet(State::High, 88)
     };
-    assert_eq!(rt; first, wanted);
+    check_told(&rt, first, wanted);
 
     next_epoch(&rt, &mut pool);
     assert_eq!(rt; raise_min(&rt, &numbers, &mut pool, 1, 16), 6);
@@ -300,9 +321,9 @@ fn a_raised_minimum_takes_from_the_other_guest(rt: HostRuntime) -> Result<(), Fa
         paged: 7,
         ..quiet(State::Low, 0)
     };
-    assert_eq!(rt; second, wanted);
-    assert_eq!(rt; frames_of(&pool, 0), Some((77, 77)));
-    assert_eq!(rt; frames_of(&pool, 1), Some((16, 16)));
+    check_told(&rt, second, wanted);
+    check_frames(&rt, &pool, 0, (77, 77));
+    check_frames(&rt, &pool, 1, (16, 16));
     pool.close();
     Ok(())
 }
@@ -317,12 +338,12 @@ fn frames_given_up_are_granted(rt: HostRuntime) -> Result<(), Fail> {
         100,
         [guest_of(alloc, 100, 10, 1000), guest_of(alloc, 10, 3, 1000)],
     )?;
-    assert_eq!(rt; start(&rt, &numbers, &mut pool, 0), 0);
+    check_start(&rt, &numbers, &mut pool, 0, 0);
     let first = settle(&rt, &numbers, &mut pool, State::High);
     assert_eq!(rt; first.granted, [86, 0]);
 
     // A frame is free, so that none could be granted before six are given up.
-    assert_eq!(rt; start(&rt, &numbers, &mut pool, 1), 0);
+    check_start(&rt, &numbers, &mut pool, 1, 0);
     let second = settle(&rt, &numbers, &mut pool, first.state);
     let wanted = Told {
         revoked: [6, 0],
@@ -330,9 +351,9 @@ fn frames_given_up_are_granted(rt: HostRuntime) -> Result<(), Fail> {
         granted: [0, 6],
         ..quiet(State::Hard, 1)
     };
-    assert_eq!(rt; second, wanted);
-    assert_eq!(rt; frames_of(&pool, 0), Some((90, 90)));
-    assert_eq!(rt; frames_of(&pool, 1), Some((9, 9)));
+    check_told(&rt, second, wanted);
+    check_frames(&rt, &pool, 0, (90, 90));
+    check_frames(&rt, &pool, 1, (9, 9));
     pool.close();
     Ok(())
 }
