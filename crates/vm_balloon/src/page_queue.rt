@@ -38,12 +38,10 @@ impl PageQueue {
         ensures queue { IfOk result (λ queue. queue ≡ record { size = size; room = room; buffers = [] }) }
         ensures memory { OnErr result (0 < size + room) }
     {
-        let buffers = Buffers::new(alloc, room)?;
-        let named = PageSet::new(alloc, size)?;
         Ok(PageQueue {
             size,
-            buffers,
-            named,
+            buffers: Buffers::new(alloc, room)?,
+            named: PageSet::new(alloc, size)?,
         })
     }
 
