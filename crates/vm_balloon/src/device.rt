@@ -2,10 +2,10 @@ ghost use Rattle.std.specs.Prelude.{◌≡◌, ◌+◌, ◌*◌, ◌<◌, ◌≤
 ghost use Rattle.std.specs.Bool.{OnTrue};
 ghost use Rattle.std.specs.Borrow.{sem};
 ghost use Rattle.std.specs.Int.{w32, to_le_bytes};
-ghost use Rattle.vm_pages.specs.Pages.{contains, count, members, insert_all, remove_all};
+ghost use Rattle.vm_pages.specs.Pages.{no_pages, contains, count, members, insert_all, remove_all};
 ghost use Rattle.vm_balloon.specs.Room.{HasRoomFor, KeepsRoom};
 ghost use Rattle.vm_balloon.specs.Service.{numbers_in, refused, inflated_by, deflated_by};
-ghost use Rattle.vm_balloon.specs.Device.{device_of, posted_count, with_posted, names, with_early_use, inflated, deflated, bad, served, IsGood};
+ghost use Rattle.vm_balloon.specs.Device.{device_of, no_stats, posted_count, with_posted, names, with_early_use, inflated, deflated, bad, served, IsGood};
 
 use crate::buffer::MOST_BYTES;
 use crate::page_queue::PageQueue;
@@ -39,6 +39,21 @@ pub struct Served {
     pub deflated: Vec<u32>,
     /// How many items of the page buffers were ignored.
     pub bad: u32,
+}
+
+impl Served {
+    // Room for so many pages on either list.
+    fn new(alloc: Global, pages: usize) -> Result<Self, AllocError>
+        ensures inflated { IfOk result (λ served. pages ≤ vec_capacity served.inflated) }
+        ensures deflated { IfOk result (λ served. pages ≤ vec_capacity served.deflated) }
+        ensures memory { OnErr result (0 < pages) }
+    {
+        Ok(Served {
+            inflated: Vec::with_capacity(alloc, pages)?,
+            deflated: Vec::with_capacity(alloc, pages)?,
+            bad: 0,
+        })
+    }
 }
 
 /// The balloon device of one guest: its configuration space, its three queues of posted buffers, and the sets of the guest's
@@ -94,23 +109,23 @@ impl Device {
         ensures memory { OnErr result (0 < size + buffers) }
     {
         let room = buffers as usize;
+        let numbers = Vec::with_capacity(alloc, MOST_NUMBERS * room)?;
+        let served = Served::new(alloc, MOST_NUMBERS * room)?;
+        let (balloon, early, early_list) = page_sets(alloc, size)?;
+        let (inflates, deflates, reports) = queues(alloc, size, room)?;
         Ok(Device {
             size,
             buffers,
-            balloon: PageSet::new(alloc, size)?,
-            early: PageSet::new(alloc, size)?,
-            early_list: Vec::with_capacity(alloc, size as usize)?,
-            inflates: PageQueue::new(alloc, size, room)?,
-            deflates: PageQueue::new(alloc, size, room)?,
-            reports: Reports::new(alloc, room)?,
+            balloon,
+            early,
+            early_list,
+            inflates,
+            deflates,
+            reports,
             num_pages: 0,
             actual: 0,
-            numbers: Vec::with_capacity(alloc, MOST_NUMBERS * room)?,
-            served: Served {
-                inflated: Vec::with_capacity(alloc, MOST_NUMBERS * room)?,
-                deflated: Vec::with_capacity(alloc, MOST_NUMBERS * room)?,
-                bad: 0,
-            },
+            numbers,
+            served,
         })
     }
 
@@ -323,6 +338,38 @@ fn serve_pages(
     deflate(numbers, size, balloon, early, &mut served.deflated);
     let refused_deflates = (numbers.len() - served.deflated.len()) as u32;
     served.bad = ragged_inflates + refused_inflates + (ragged_deflates + refused_deflates);
+}
+
+// The balloon, the pages used early, and room for a list of all pages.
+fn page_sets(alloc: Global, size: u32) -> Result<(PageSet, PageSet, Vec<u32>), AllocError>
+    ensures balloon { IfOk result (λ sets. sets.0 ≡ no_pages size) }
+    ensures early { IfOk result (λ sets. sets.1 ≡ no_pages size) }
+    ensures empty { IfOk result (λ sets. sets.2.items ≡ []) }
+    ensures room { IfOk result (λ sets. size ≤ vec_capacity sets.2) }
+    ensures memory { OnErr result (0 < size) }
+{
+    let early_list = Vec::with_capacity(alloc, size as usize)?;
+    let balloon = PageSet::new(alloc, size)?;
+    let early = PageSet::new(alloc, size)?;
+    Ok((balloon, early, early_list))
+}
+
+// The queues of inflation, of deflation and of statistics.
+fn queues(
+    alloc: Global,
+    size: u32,
+    room: usize,
+) -> Result<(PageQueue, PageQueue, Reports), AllocError>
+    requires { size ≤ 262144 }
+    ensures inflates { IfOk result (λ queues. queues.0 ≡ record { size = size; room = room; buffers = [] }) }
+    ensures deflates { IfOk result (λ queues. queues.1 ≡ record { size = size; room = room; buffers = [] }) }
+    ensures reports { IfOk result (λ queues. queues.2 ≡ record { room = room; list = []; stats = no_stats }) }
+    ensures memory { OnErr result (0 < size + room) }
+{
+    let reports = Reports::new(alloc, room)?;
+    let inflates = PageQueue::new(alloc, size, room)?;
+    let deflates = PageQueue::new(alloc, size, room)?;
+    Ok((inflates, deflates, reports))
 }
 
 // Whether no page buffer is posted.

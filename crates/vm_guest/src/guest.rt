@@ -318,17 +318,18 @@ impl Guest {
             spec,
             allotment: _,
             memory,
-            used: _,
-            free: _,
-            device: _,
-            sampler: _,
+            used,
+            free,
+            device,
+            sampler,
             words: _,
-            used_early: _,
-            reads: _,
+            used_early,
+            reads,
             counts: _,
             progress: _,
-            draft: _,
+            draft,
         } = parts;
+        drop((used, free, device, sampler, used_early, reads, draft));
         memory.close(spec.size, machine);
         spec
     }

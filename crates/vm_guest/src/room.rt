@@ -36,7 +36,8 @@ impl Model for GuestRoom {
 
 impl Drop for GuestRoom {
     fn drop(self) {
-        let GuestRoom { room: _, memory } = self;
+        let GuestRoom { room, memory } = self;
+        drop(room);
         memory.close();
     }
 }
@@ -46,9 +47,14 @@ impl GuestRoom {
     pub fn new(alloc: Global, spec: &GuestSpec) -> Result<GuestRoom, AllocError>
         ensures { IfOk result (λ room. room ≡ room_for spec.now) }
     {
-        let room = Room::new(alloc, spec)?;
         let memory = MemoryRoom::new(alloc, spec.size, spec.size - spec.min)?;
-        Ok(GuestRoom { room, memory })
+        match Room::new(alloc, spec) {
+            Ok(room) => Ok(GuestRoom { room, memory }),
+            Err(error) => {
+                memory.close();
+                Err(error)
+            }
+        }
     }
 
     // What a guest is that starts in this room, which is for it, with its minimum of frames, which the machine has free.
