@@ -12,8 +12,6 @@ mod page_queue;
 mod reports;
 mod service;
 mod stats;
-#[cfg(test)]
-mod tests;
 mod virtio;
 
 pub use device::{Device, Queue, Served};

@@ -8,8 +8,6 @@
 mod command_line;
 mod complaints;
 mod request;
-#[cfg(test)]
-mod tests;
 
 pub use command_line::{CommandLine, Flag};
 pub use complaints::DONE;

@@ -12,6 +12,3 @@ pub use command::{Command, Domain};
 pub use error::LineFault;
 pub use line::parse_line;
 pub use size::scaled_pages;
-
-#[cfg(test)]
-mod tests;

@@ -16,7 +16,7 @@ use Rattle.vm_config.specs.declared.version.Limits.{Limits}
 use Rattle.vm_config.specs.FirstFault.{StandsAtGuest}
 use Rattle.vm_config.specs.Guests.{Listed, no_guests, with_guest}
 use Rattle.vm_config.specs.Keys.{required_number, number_or, objects_in, objects_or_none}
-use Rattle.vm_config.specs.Located.{machine_at, keys_of_guest, guest_at, guests_at, command_at, commands_at, keys_at, config_at}
+use Rattle.vm_config.specs.Located.{machine_at, pages_at, rates_at, choices_at, keys_of_guest, guest_at, guests_at, command_at, commands_at, numbers_at, keys_at, config_at}
 use Rattle.vm_config.specs.Migration.{migrated}
 use Rattle.vm_config.specs.Outcomes.{◌>>=◌}
 use Rattle.vm_config.specs.Places.{placed, without_place, fault_in}
@@ -64,14 +64,21 @@ located_all : {A B : Type 0} (Q : Place → Type 0) (located : Result A Fault) (
 located_all Q (Ok x) next here rest = rest x
 located_all Q (Err f) next here rest = here
 
+grouped_all : (Q : Place → Type 0) (A B C : Type 0) (p : Place) (read : Result A ConfigError) (group : A → Result B Fault)
+    (next : B → Result C Fault)
+    → Q p → ((x : A) → FaultsStand Q (group x >>= next)) → FaultsStand Q ((placed p read >>= group) >>= next)
+grouped_all Q A B C p (Ok x) group next here rest = rest x
+grouped_all Q A B C p (Err e) group next here rest = here
+
 machine_stands : (limits : Limits) (d : Data) → FaultsStand IsElsewhere (machine_at limits d)
 unfolding machine_at
 machine_stands limits d = search (placed_all IsElsewhere) depth 20
 
 guest_stands : (limits : Limits) (quantum : ℕ) (d : Data) (earlier : List Domain)
     → FaultsStand (λ p. guest_number p ≡ length earlier) (keys_of_guest limits quantum d earlier (Guest (length earlier)))
-unfolding keys_of_guest
-guest_stands limits quantum d earlier = search (placed_all (λ (p : Place). guest_number p ≡ length earlier)) depth 40
+unfolding keys_of_guest pages_at rates_at choices_at
+guest_stands limits quantum d earlier =
+    search (placed_all (λ (p : Place). guest_number p ≡ length earlier), grouped_all (λ (p : Place). guest_number p ≡ length earlier)) depth 40
 
 command_stands : (number : ℕ) (d : Data) → FaultsStand IsElsewhere (command_at number d)
 command_stands number d = search (placed_all IsElsewhere) depth 10
@@ -97,6 +104,22 @@ passed : {A B : Type 0} (located : Result A Fault) (next : A → Result B Fault)
     → (x : A) × (located ≡ Ok x) × (next x ≡ Err f)
 passed (Ok x) next f elsewhere guest is = (x, refl, is)
 passed (Err g) next f elsewhere guest is =
+    absurd (true≢false (sym guest ∙ ap (stands_at_guest f) (sym is) ∙ elsewhere))
+
+-- the same of what is read inside a group
+passed_in_at : {A B C : Type 0} (p : Place) (read : Result A ConfigError) (group : A → Result B Fault) (next : B → Result C Fault)
+    (f : Fault)
+    → is_of_guest p ≡ false → is_of_guest f.place ≡ true → ((placed p read >>= group) >>= next) ≡ Err f
+    → (x : A) × (read ≡ Ok x) × ((group x >>= next) ≡ Err f)
+passed_in_at p (Ok x) group next f elsewhere guest is = (x, refl, is)
+passed_in_at p (Err e) group next f elsewhere guest is =
+    absurd (true≢false (sym guest ∙ ap (stands_at_guest f) (sym is) ∙ elsewhere))
+
+passed_in : {A B C : Type 0} (located : Result A Fault) (group : A → Result B Fault) (next : B → Result C Fault) (f : Fault)
+    → FaultsStand IsElsewhere located → is_of_guest f.place ≡ true → ((located >>= group) >>= next) ≡ Err f
+    → (x : A) × (located ≡ Ok x) × ((group x >>= next) ≡ Err f)
+passed_in (Ok x) group next f elsewhere guest is = (x, refl, is)
+passed_in (Err g) group next f elsewhere guest is =
     absurd (true≢false (sym guest ∙ ap (stands_at_guest f) (sym is) ∙ elsewhere))
 
 -- the fault stands at what comes before
@@ -179,11 +202,11 @@ record KeysRefuse (limits : Limits) (d : Data) (f : Fault) : Type 0 where
 
 keys_first : (limits : Limits) (d : Data) (f : Fault) → is_of_guest f.place ≡ true → keys_at limits d ≡ Err f
     → KeysRefuse limits d f
-unfolding keys_at
+unfolding keys_at numbers_at
 keys_first limits d f guest is =
-    let machine = passed (machine_at limits d) _ f (machine_stands limits d) guest is in
-    let quantum = passed_at (place.Key Root Quantum) (number_or (get (codes "quantum") d) 1 65536 100) _ f refl guest machine.2 in
-    let epochs = passed_at (place.Key Root Epochs) (required_number (get (codes "epochs") d) 0 10000) _ f refl guest quantum.2 in
+    let machine = passed_in (machine_at limits d) _ _ f (machine_stands limits d) guest is in
+    let quantum = passed_in_at (place.Key Root Quantum) (number_or (get (codes "quantum") d) 1 65536 100) _ _ f refl guest machine.2 in
+    let epochs = passed_in_at (place.Key Root Epochs) (required_number (get (codes "epochs") d) 0 10000) _ _ f refl guest quantum.2 in
     let objects = passed_at (place.Key Root Guests) (objects_in limits.guests (get (codes "guests") d)) _ f refl guest epochs.2 in
     let schedule = passed_at (place.Key Root Commands)
     (objects_or_none 10000 (get (codes "commands") d)) _ f refl guest objects.2 in

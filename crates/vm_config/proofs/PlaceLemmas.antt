@@ -13,7 +13,7 @@ use Rattle.vm_config.specs.declared.place.Place.{Place}
 use Rattle.vm_config.specs.declared.fault.Fault.{Fault}
 use Rattle.vm_config.specs.declared.version.Limits.{Limits}
 use Rattle.vm_config.specs.Guests.{Listed, no_guests, with_guest}
-use Rattle.vm_config.specs.Located.{machine_at, keys_of_guest, guest_at, guests_at, command_at, commands_at, keys_at, config_v1_at, config_in_at, config_at}
+use Rattle.vm_config.specs.Located.{machine_at, pages_at, rates_at, choices_at, keys_of_guest, guest_at, guests_at, command_at, commands_at, numbers_at, keys_at, config_v1_at, config_in_at, config_at}
 use Rattle.vm_config.specs.Migration.{migrated}
 use Rattle.vm_config.specs.Outcomes.{◌>>=◌, IsOrMemory}
 use Rattle.vm_config.specs.Places.{placed, without_place, error_in, fault_in, IsOrLacksMemory}
@@ -28,6 +28,14 @@ pub placed_then : {A B : Type 0} (place : Place) (read : Result A ConfigError) (
 placed_then place (Ok x) next rest same = same x
 placed_then place (Err error) next rest same = refl
 
+-- what is read at a place, the rest of its group, and then what comes after the group
+pub grouped_then : {A B C : Type 0} (place : Place) (read : Result A ConfigError) (group : A → Result B Fault)
+    (next : B → Result C Fault) (rest : A → Result C ConfigError)
+    → ((x : A) → without_place (group x >>= next) ≡ rest x)
+    → without_place ((placed place read >>= group) >>= next) ≡ (read >>= rest)
+grouped_then place (Ok x) group next rest same = same x
+grouped_then place (Err error) group next rest same = refl
+
 -- what is read at several places, and then the rest
 pub located_then : {A B : Type 0} (located : Result A Fault) (read : Result A ConfigError) (next : A → Result B Fault)
     (rest : A → Result B ConfigError)
@@ -36,14 +44,22 @@ pub located_then : {A B : Type 0} (located : Result A Fault) (read : Result A Co
 located_then (Ok x) read next rest is same = same x ∙ ap (λ r. r >>= rest) is
 located_then (Err fault) read next rest is same = ap (λ r. r >>= rest) is
 
+-- the same of the first of a group
+pub located_group : {A B C : Type 0} (located : Result A Fault) (read : Result A ConfigError) (group : A → Result B Fault)
+    (next : B → Result C Fault) (rest : A → Result C ConfigError)
+    → without_place located ≡ read → ((x : A) → without_place (group x >>= next) ≡ rest x)
+    → without_place ((located >>= group) >>= next) ≡ (read >>= rest)
+located_group (Ok x) read group next rest is same = same x ∙ ap (λ r. r >>= rest) is
+located_group (Err fault) read group next rest is same = ap (λ r. r >>= rest) is
+
 pub machine_without : (limits : Limits) (d : Data) → without_place (machine_at limits d) ≡ machine_in limits d
 unfolding machine_at machine_in
 machine_without limits d = search placed_then depth 20
 
 pub guest_without : (limits : Limits) (quantum : ℕ) (d : Data) (earlier : List Domain) (guest : Part)
     → without_place (keys_of_guest limits quantum d earlier guest) ≡ guest_in limits quantum d earlier
-unfolding keys_of_guest guest_in
-guest_without limits quantum d earlier guest = search placed_then depth 40
+unfolding keys_of_guest pages_at rates_at choices_at guest_in
+guest_without limits quantum d earlier guest = search (placed_then, grouped_then) depth 40
 
 pub guests_without : (limits : Limits) (quantum : ℕ) (ds : List Data) (earlier : GuestList)
     → without_place (guests_at limits quantum ds earlier) ≡ guests_from limits quantum ds earlier
@@ -78,10 +94,10 @@ lists_without limits quantum objects schedule machine epochs =
     (λ (commands : List ScheduledLine). refl))
 
 pub keys_without : (limits : Limits) (d : Data) → without_place (keys_at limits d) ≡ keys_in limits d
-unfolding keys_at keys_in
+unfolding keys_at numbers_at keys_in
 keys_without limits d =
-    located_then (machine_at limits d) (machine_in limits d) _ _ (machine_without limits d)
-    (λ (machine : MachineConfig). search (placed_then, lists_without) depth 20)
+    located_group (machine_at limits d) (machine_in limits d) _ _ _ (machine_without limits d)
+    (λ (machine : MachineConfig). search (placed_then, grouped_then, lists_without) depth 20)
 
 pub config_v1_without : (bytes : List ℕ) → without_place (config_v1_at bytes) ≡ config_v1_of bytes
 config_v1_without bytes = search (placed_then, keys_without)

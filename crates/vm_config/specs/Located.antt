@@ -6,7 +6,11 @@ use Rattle.serde_json.specs.Find.{get}
 use Rattle.vm_domains.specs.Domains.{Domain}
 use Rattle.vm_domains.specs.Machine.{MachineConfig}
 use Rattle.vm_config.specs.declared.config.Config.{Config}
+use Rattle.vm_config.specs.declared.guest_keys.Choices.{Choices}
+use Rattle.vm_config.specs.declared.guest_keys.Pages.{Pages}
+use Rattle.vm_config.specs.declared.guest_keys.Rates.{Rates}
 use Rattle.vm_config.specs.declared.guests.GuestList.{GuestList}
+use Rattle.vm_config.specs.declared.reading.Numbers.{Numbers}
 use Rattle.vm_config.specs.declared.place.Key.TheVariants.{Version, Frames, Swap, Overhead, Tax, Percent, PageRate, Quantum, Epochs, Guests, Commands, Name, Size, Min, Shares, Samples, Period, Rate, Seed, Stream, Autostart, Tell, Trace, At, Line}
 use Rattle.vm_config.specs.declared.place.Part.{Part}
 use Rattle.vm_config.specs.declared.place.Part.TheVariants.{Root, Guest, Command}
@@ -38,40 +42,58 @@ machine_at limits d = do
     page_rate = page_rate;
   })
 
--- the guest of this number, with each fault at a key of it
-unfoldable pub keys_of_guest : Limits → ℕ → Data → List Domain → Part → Result Listed Fault
-keys_of_guest limits quantum d earlier guest = do
-  name ← at guest Name (name_in earlier (get (name_of Name) d))
+-- the keys of a guest, each fault at its key, by what they say: its pages,
+unfoldable pub pages_at : Limits → Data → Part → Result Pages Fault
+pages_at limits d guest = do
   size ← number_at d guest Size 1 limits.size
   min ← number_at d guest Min 1 size
+  Ok (record { size = size; min = min })
+
+-- its part, how it is sampled, and how fast its driver gives pages up,
+unfoldable pub rates_at : Data → Part → Result Rates Fault
+rates_at d guest = do
   shares ← number_or_at d guest Shares 1 1000000 1000
   samples ← number_or_at d guest Samples 1 1000 100
   period ← number_or_at d guest Period 1 1000000 1000
   rate ← number_or_at d guest Rate 1 256 16
+  Ok (record { shares = shares; samples = samples; period = period; rate = rate })
+
+-- and its generator, whether it starts by itself, and whether it tells
+unfoldable pub choices_at : Limits → Data → Part → Result Choices Fault
+choices_at limits d guest = do
   seed ← number_or_at d guest Seed 0 18446744073709551615 0
   stream ← number_or_at d guest Stream 0 18446744073709551615 0
   autostart ← flag_or_at d guest Autostart true
   tell ← flag_if_at limits.has_tell d guest Tell true
+  Ok (record { seed = seed; stream = stream; autostart = autostart; tell = tell })
+
+-- the guest of this number
+unfoldable pub keys_of_guest : Limits → ℕ → Data → List Domain → Part → Result Listed Fault
+keys_of_guest limits quantum d earlier guest = do
+  name ← at guest Name (name_in earlier (get (name_of Name) d))
+  pages ← pages_at limits d guest
+  rates ← rates_at d guest
+  choices ← choices_at limits d guest
   texts ← at guest Trace (texts_or_none 1000000 (get (name_of Trace) d))
-  trace ← at guest Trace (steps_from limits.size size (length earlier) texts [])
+  trace ← at guest Trace (steps_from limits.size pages.size (length earlier) texts [])
   Ok (record {
     domain = record {
       name = name;
       config = record {
-        size = size;
-        min = min;
-        shares = shares;
-        samples = samples;
-        period = period;
-        rate = rate;
+        size = pages.size;
+        min = pages.min;
+        shares = rates.shares;
+        samples = rates.samples;
+        period = rates.period;
+        rate = rates.rate;
         quantum = quantum;
-        seed = seed;
-        stream = stream;
-        tell = tell;
+        seed = choices.seed;
+        stream = choices.stream;
+        tell = choices.tell;
         trace = trace;
       };
     };
-    autostart = autostart;
+    autostart = choices.autostart;
   })
 
 -- a guest after these ones
@@ -99,19 +121,25 @@ commands_at (d ∷ ds) done = do
   command ← command_at (length done) d
   commands_at ds (done ++ command ∷ [])
 
--- the keys of the root after the version, then each guest, and then each command
-unfoldable pub keys_at : Limits → Data → Result Config Fault
-keys_at limits d = do
+-- the first keys of the root after the version
+unfoldable pub numbers_at : Limits → Data → Result Numbers Fault
+numbers_at limits d = do
   machine ← machine_at limits d
   quantum ← number_or_at d Root Quantum 1 65536 100
   epochs ← number_at d Root Epochs 0 10000
+  Ok (record { machine = machine; quantum = quantum; epochs = epochs })
+
+-- the keys of the root after the version, then each guest, and then each command
+unfoldable pub keys_at : Limits → Data → Result Config Fault
+keys_at limits d = do
+  numbers ← numbers_at limits d
   objects ← at Root Guests (objects_in limits.guests (get (name_of Guests) d))
   schedule ← at Root Commands (objects_or_none 10000 (get (name_of Commands) d))
-  guests ← guests_at limits quantum objects no_guests
+  guests ← guests_at limits numbers.quantum objects no_guests
   commands ← commands_at schedule []
   Ok (record {
-    machine = machine;
-    epochs = epochs;
+    machine = numbers.machine;
+    epochs = numbers.epochs;
     domains = guests.domains;
     autostart = guests.autostart;
     commands = commands;

@@ -16,7 +16,8 @@ ghost use Rattle.vm_config.specs.Versions.{AreLimits};
 use crate::autostart::Autostart;
 use crate::error::ConfigError;
 use crate::fault::{Fault, at};
-use crate::keys::{flag_if_known, flag_or_default, number, number_or_default, text, texts_or_none};
+use crate::guest_keys::{choices_of, pages_of, rates_of};
+use crate::keys::{text, texts_or_none};
 use crate::names::is_name;
 use crate::place::{Key, Part};
 use crate::trace::trace;
@@ -25,22 +26,6 @@ use std::alloc::{AllocError, Global};
 use vm_domains::Domains;
 use vm_guest::GuestSpec;
 use vm_json::Value;
-
-const MAX_SHARES: u64 = 1_000_000;
-
-const DEFAULT_SHARES: u64 = 1000;
-
-const MAX_SAMPLES: u64 = 1000;
-
-const DEFAULT_SAMPLES: u64 = 100;
-
-const MAX_PERIOD: u64 = 1_000_000;
-
-const DEFAULT_PERIOD: u64 = 1000;
-
-const MAX_RATE: u64 = 256;
-
-const DEFAULT_RATE: u64 = 16;
 
 const MAX_TRACE: usize = 1_000_000;
 
@@ -93,36 +78,29 @@ fn guest<'a>(
 {
     let part = Part::Guest(earlier.len());
     let name = at(part, Key::Name, fresh_name(object, earlier))?;
-    let size = number(object, part, Key::Size, 1, limits.size)?;
-    let min = number(object, part, Key::Min, 1, size)?;
-    let shares = number_or_default(object, part, Key::Shares, 1, MAX_SHARES, DEFAULT_SHARES)?;
-    let samples = number_or_default(object, part, Key::Samples, 1, MAX_SAMPLES, DEFAULT_SAMPLES)?;
-    let period = number_or_default(object, part, Key::Period, 1, MAX_PERIOD, DEFAULT_PERIOD)?;
-    let rate = number_or_default(object, part, Key::Rate, 1, MAX_RATE, DEFAULT_RATE)?;
-    let seed = number_or_default(object, part, Key::Seed, 0, u64::MAX, 0)?;
-    let stream = number_or_default(object, part, Key::Stream, 0, u64::MAX, 0)?;
-    let autostart = flag_or_default(object, part, Key::Autostart, true)?;
-    let tell = flag_if_known(limits.has_tell, object, part, Key::Tell, true)?;
+    let pages = pages_of(limits, object, part)?;
+    let rates = rates_of(object, part)?;
+    let choices = choices_of(limits, object, part)?;
     let texts = at(part, Key::Trace, texts_or_none(object, "trace", MAX_TRACE))?;
-    let trace = trace(alloc, limits.size as u32, size as u32, earlier.len(), texts);
+    let trace = trace(alloc, limits.size as u32, pages.size, earlier.len(), texts);
     let trace = at(part, Key::Trace, trace)?;
     let spec = GuestSpec {
-        size: size as u32,
-        min: min as u32,
-        shares: shares as u32,
-        samples: samples as u32,
-        period: period as u32,
-        rate: rate as u32,
+        size: pages.size,
+        min: pages.min,
+        shares: rates.shares,
+        samples: rates.samples,
+        period: rates.period,
+        rate: rates.rate,
         quantum,
-        seed,
-        stream,
-        tell,
+        seed: choices.seed,
+        stream: choices.stream,
+        tell: choices.tell,
         trace,
     };
     Ok(Named {
         name,
         spec,
-        autostart,
+        autostart: choices.autostart,
     })
 }
 

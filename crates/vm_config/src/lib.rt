@@ -15,18 +15,15 @@ mod commands;
 mod config;
 mod error;
 mod fault;
+mod guest_keys;
 mod guests;
 mod keys;
 mod machine;
 mod migration;
 mod names;
 mod place;
-#[cfg(test)]
-mod place_tests;
 mod reading;
 mod schedule;
-#[cfg(test)]
-mod tests;
 mod trace;
 mod version;
 

@@ -7,7 +7,7 @@ ghost use Rattle.vm_config.specs.declared.error.ConfigError.{ConfigError};
 ghost use Rattle.vm_config.specs.declared.place.Key.{Key};
 ghost use Rattle.vm_config.specs.FirstFault.{StandsAtGuest};
 ghost use Rattle.vm_config.specs.Limits.{IsConfig};
-ghost use Rattle.vm_config.specs.Located.{config_at, config_v1_at, keys_at, root_at, version_at};
+ghost use Rattle.vm_config.specs.Located.{config_at, config_v1_at, keys_at, numbers_at, root_at, version_at};
 ghost use Rattle.vm_config.specs.Migration.{migrated};
 ghost use Rattle.vm_config.specs.Outcomes.{IsOrMemory};
 ghost use Rattle.vm_config.specs.Places.{error_in, fault_in, IsOrLacksMemory};
@@ -26,6 +26,7 @@ use crate::migration::migrate;
 use crate::place::{Key, Part, Place};
 use crate::version::{Limits, VERSION_1, VERSION_2};
 use std::alloc::{AllocError, Global};
+use vm_domains::MachineSpec;
 use vm_json::{ReadError, Scratch, Value, is_object};
 
 const MAX_QUANTUM: u64 = 65536;
@@ -36,6 +37,41 @@ const MAX_EPOCHS: u64 = 10_000;
 
 const MAX_COMMANDS: usize = 10_000;
 
+// The machine, the steps of an epoch, and the epochs of a run.
+#[derive(Clone, Copy)]
+struct Numbers {
+    machine: MachineSpec,
+    quantum: u32,
+    epochs: u32,
+}
+
+// The first keys of the root after the version.
+#[tactic(auto, unfolding(crate::specs::Located::numbers_at))]
+fn numbers_of(limits: &Limits, root: &Value<'_>) -> Result<Numbers, Fault>
+    requires { AreLimits limits.now }
+    ensures numbers { result ≡ numbers_at limits.now (view root.now) }
+    ensures tax { IfOk result (λ n. n.machine.tax ≤ limits.now.tax) }
+    ensures percent { IfOk result (λ n. n.machine.percent.high ≤ limits.now.percent) }
+    ensures quantum { IfOk result (λ n. (1 ≤ n.quantum) × (n.quantum ≤ 65536)) }
+    ensures epochs { IfOk result (λ n. n.epochs ≤ 10000) }
+{
+    let machine = machine(limits, root)?;
+    let quantum = number_or_default(
+        root,
+        Part::Root,
+        Key::Quantum,
+        1,
+        MAX_QUANTUM,
+        DEFAULT_QUANTUM,
+    )?;
+    let epochs = number(root, Part::Root, Key::Epochs, 0, MAX_EPOCHS)?;
+    Ok(Numbers {
+        machine,
+        quantum: quantum as u32,
+        epochs: epochs as u32,
+    })
+}
+
 // The keys of the root after the version, then each guest, and then each command.
 #[tactic(auto, unfolding(crate::specs::Located::keys_at))]
 fn keys(alloc: Global, limits: &Limits, root: Value<'_>) -> Result<Config, Fault>
@@ -45,16 +81,7 @@ fn keys(alloc: Global, limits: &Limits, root: Value<'_>) -> Result<Config, Fault
     ensures tax { IfOk result (λ c. c.machine.tax ≤ limits.now.tax) }
     ensures percent { IfOk result (λ c. c.machine.percent.high ≤ limits.now.percent) }
 {
-    let machine = machine(limits, &root)?;
-    let quantum = number_or_default(
-        &root,
-        Part::Root,
-        Key::Quantum,
-        1,
-        MAX_QUANTUM,
-        DEFAULT_QUANTUM,
-    )?;
-    let epochs = number(&root, Part::Root, Key::Epochs, 0, MAX_EPOCHS)?;
+    let numbers = numbers_of(limits, &root)?;
     at(
         Part::Root,
         Key::Guests,
@@ -69,10 +96,10 @@ fn keys(alloc: Global, limits: &Limits, root: Value<'_>) -> Result<Config, Fault
         Key::Guests,
         take_objects(root, "guests", limits.guests),
     )?;
-    let GuestList { domains, autostart } = guests(alloc, limits, quantum as u32, objects)?;
+    let GuestList { domains, autostart } = guests(alloc, limits, numbers.quantum, objects)?;
     Ok(Config {
-        machine,
-        epochs: epochs as u32,
+        machine: numbers.machine,
+        epochs: numbers.epochs,
         domains,
         autostart,
         commands: commands?,

@@ -35,8 +35,6 @@ mod obey;
 mod parts;
 mod phase;
 mod stages;
-#[cfg(test)]
-mod tests;
 
 pub use boundary::{Answer, Answers, Boundary, DomainStatistics, Outcome, Refusal};
 pub use host::{Host, HostError};

@@ -15,8 +15,6 @@ mod row;
 mod scan;
 mod state;
 mod stretch;
-#[cfg(test)]
-mod tests;
 mod thresholds;
 mod tracking;
 

@@ -23,8 +23,6 @@ mod minimum;
 mod pool;
 mod round;
 mod slot;
-#[cfg(test)]
-mod tests;
 mod turn;
 
 pub use law::law_conserves;

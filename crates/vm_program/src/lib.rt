@@ -9,8 +9,6 @@ mod complaints;
 mod law;
 mod line;
 mod program;
-#[cfg(test)]
-mod tests;
 
 pub use law::law_words;
 pub use program::{status, status_for, vmmem};

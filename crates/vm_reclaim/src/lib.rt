@@ -15,8 +15,6 @@ mod policy;
 mod reclaim;
 mod room;
 mod rows;
-#[cfg(test)]
-mod tests;
 mod told;
 
 pub use boundary::plan_boundary;

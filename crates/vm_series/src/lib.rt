@@ -7,8 +7,6 @@
 mod collect;
 mod csv_lines;
 mod rows;
-#[cfg(test)]
-mod tests;
 
 pub use collect::collect_series;
 pub use csv_lines::csv_text;

@@ -9,8 +9,6 @@ mod complaints;
 mod law;
 mod line;
 mod program;
-#[cfg(test)]
-mod tests;
 mod writing;
 
 pub use law::law_words;

@@ -1,5 +1,5 @@
 -- What a run keeps of a host.
-use Rattle.std.proofs.Common.{◌≡◌, ℕ, zero, suc, List, Option, refl, ap, ◌∙◌, subst}
+use Rattle.std.proofs.Common.{◌≡◌, ℕ, zero, suc, List, Option, Result, Ok, Err, IfOk, OnOk, OnErr, refl, ap, ◌∙◌, subst}
 use Rattle.vm_host.proofs.KeptLemmas.{machine-bounded, names-bounded}
 use Rattle.vm_host.specs.World.{World, first_world}
 use Rattle.vm_config.specs.declared.config.Config.{Config}
@@ -58,3 +58,19 @@ module _ (c : Config) (w : World) (is : w ≡ first_world c.machine c.domains) w
 
   pub front_of_new : (x y : Option (List ℕ)) → AppendsFront x y (report_in (course_from c.epochs (agenda_of c) w)) → AppendsFront x y (report_of c)
   front_of_new x y front = subst (λ (text : List ℕ). AppendsFront x y text) report_of_new front
+
+  -- the same of a run that may have failed
+  pub world_of_run : {E : Type 0} (r : Result World E) → IfOk r (λ host. host ≡ world_in (course_from c.epochs (agenda_of c) w) c.epochs)
+      → IfOk r (λ host. host ≡ world_after c c.epochs)
+  world_of_run (Ok host) after = world_of_new host after
+  world_of_run (Err e) after = tt
+
+  pub written_of_run : {T E : Type 0} (r : Result T E) (x y : Option (List ℕ)) → OnOk r (Appends x y (report_in (course_from c.epochs (agenda_of c) w)))
+      → IfOk r (λ _. Appends x y (report_of c))
+  written_of_run (Ok host) x y written = written_of_new x y written
+  written_of_run (Err e) x y written = tt
+
+  pub front_of_run : {T E : Type 0} (r : Result T E) (x y : Option (List ℕ)) → OnErr r (AppendsFront x y (report_in (course_from c.epochs (agenda_of c) w)))
+      → OnErr r (AppendsFront x y (report_of c))
+  front_of_run (Ok host) x y front = tt
+  front_of_run (Err e) x y front = front_of_new x y front

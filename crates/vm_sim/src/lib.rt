@@ -21,8 +21,6 @@ mod run_error;
 mod simulation;
 mod stepping;
 mod stream;
-#[cfg(test)]
-mod tests;
 
 pub use input::read_text;
 pub use law::{law_migration, law_runs};

@@ -1,10 +1,10 @@
 // From bytes to a report.
-ghost use Rattle.std.specs.Prelude.{◌≡◌, ◌≢◌, ◌↔◌, ◌⊎◌, ◌<◌, ◌≤◌, ℕ, List, length, IfOk, IfErr, OnOk, OnErr, Err};
+ghost use Rattle.std.specs.Prelude.{◌≡◌, ◌≢◌, ◌↔◌, ◌⊎◌, ◌<◌, ◌≤◌, ℕ, List, length, IfOk, IfErr, OnOk, OnErr, Err, string_bytes};
 ghost use Rattle.std.specs.Io.KnownBytes.{Appends, Consumes};
 ghost use Rattle.vm_host.specs.declared.phase.Phase.TheVariants.{Ready, Waiting};
 ghost use Rattle.vm_host.specs.Epoch.{after_epoch};
 ghost use Rattle.vm_reclaim.specs.Policy.{policy_of};
-ghost use Rattle.vm_sim.specs.declared.run_error.RunError.TheVariants.{Read, Workers, Write};
+ghost use Rattle.vm_sim.specs.declared.run_error.RunError.TheVariants.{Memory, Read, Workers, Write};
 ghost use Rattle.vm_sim.specs.Course.{after_boundary, course_from, lines_for, next_world, told_by_boundary, world_after, world_in};
 ghost use Rattle.vm_sim.specs.Headline.{AddsUp, ReadsLastWrites, RevokesFairly};
 ghost use Rattle.vm_sim.specs.Report.{boundary_told, epoch_text, report_in, report_of, told_in_epoch};
@@ -36,8 +36,57 @@ pub(crate) fn boundary(alloc: Global, host: &mut Host, lines: &Lines) -> Result<
     host.boundary(alloc, lines)
 }
 
-// The boundary before an epoch, and what is told of it.
+// The boundary before an epoch.
+pub(crate) fn boundary_before(
+    alloc: Global,
+    number: u32,
+    agenda: &Agenda,
+    host: &mut Host,
+) -> Result<Boundary, RunError>
+    ensures host { OnOk result (host.new
+        ≡ after_boundary (policy_of host.old.machine) (lines_for host.old.names agenda.now number) host.old) }
+    ensures told { IfOk result (λ told. told
+        ≡ told_by_boundary (policy_of host.old.machine) (lines_for host.old.names agenda.now number) host.old) }
+    ensures ready { OnOk result (host.new.phase ≡ Ready) }
+    ensures memory { IfErr result (λ error. error ≡ Memory) }
+{
+    let lines = lines_for(alloc, host, agenda, number)?;
+    let boundary = boundary(alloc, host, &lines)?;
+    Ok(boundary)
+}
+
+// The boundary before an epoch, in text.
 #[tactic(auto, unfolding(crate::specs::Report::boundary_told))]
+fn text_of_boundary(
+    alloc: Global,
+    number: u32,
+    agenda: &Agenda,
+    host: &mut Host,
+) -> Result<String, RunError>
+    ensures host { OnOk result (host.new
+        ≡ after_boundary (policy_of host.old.machine) (lines_for host.old.names agenda.now number) host.old) }
+    ensures ready { OnOk result (host.new.phase ≡ Ready) }
+    ensures told { IfOk result (λ text. string_bytes text
+        ≡ boundary_told number (policy_of host.old.machine) (lines_for host.old.names agenda.now number) host.old) }
+    ensures memory { IfErr result (λ error. error ≡ Memory) }
+{
+    let boundary = boundary_before(alloc, number, agenda, host)?;
+    let text = boundary_text(alloc, number, host, &boundary)?;
+    Ok(text)
+}
+
+// A text is written, and then let go.
+fn write_told<W: Sink>(writer: &mut W, text: String) -> Result<(), RunError>
+    ensures written { OnOk result (Appends (W.contents writer.old) (W.contents writer.new) (string_bytes text)) }
+    ensures front { OnErr result (AppendsFront (W.contents writer.old) (W.contents writer.new) (string_bytes text)) }
+    ensures stays { OnOk result (W.has_failed writer.new ≡ W.has_failed writer.old) }
+    ensures cause { IfErr result (CutShort (W.has_failed writer.old) (W.has_failed writer.new)) }
+{
+    write_text(writer, text.as_bytes())?;
+    Ok(())
+}
+
+// The boundary before an epoch, and what is told of it.
 fn tell_boundary<W: Sink>(
     alloc: Global,
     number: u32,
@@ -55,10 +104,8 @@ fn tell_boundary<W: Sink>(
     ensures stays { OnOk result (W.has_failed writer.new ≡ W.has_failed writer.old) }
     ensures cause { IfErr result (CutShort (W.has_failed writer.old) (W.has_failed writer.new)) }
 {
-    let lines = lines_for(alloc, host, agenda, number)?;
-    let boundary = boundary(alloc, host, &lines)?;
-    let text = boundary_text(alloc, number, host, &boundary)?;
-    write_text(writer, text.as_bytes())?;
+    let text = text_of_boundary(alloc, number, agenda, host)?;
+    write_told(writer, text)?;
     Ok(())
 }
 
@@ -80,7 +127,7 @@ fn tell_epoch<RT: Threads + Sync, G: Gate + Sync, W: Sink>(
 {
     host.epoch(crew.rt, alloc, crew.gate, crew.workers)?;
     let text = epoch_text(alloc, host)?;
-    write_text(writer, text.as_bytes())?;
+    write_told(writer, text)?;
     Ok(())
 }
 
@@ -130,11 +177,38 @@ fn tell<RT: Threads + Sync, G: Gate + Sync, W: Sink>(
         epoch(alloc, crew, number, agenda, host, writer)?;
     }
     let told = end_text(alloc, host)?;
-    write_text(writer, told.as_bytes())?;
+    write_told(writer, told)?;
     Ok(())
 }
 
-// A configuration is run to its end. A host that fails is closed.
+// All epochs of a new host, and the host that they leave. A host that fails is closed.
+fn run_to_end<RT: Threads + Sync, G: Gate + Sync, W: Sink>(
+    alloc: Global,
+    crew: &Crew<'_, RT, G>,
+    epochs: u32,
+    agenda: &Agenda,
+    host: Host,
+    writer: &mut W,
+) -> Result<Host, RunError>
+    ensures host { IfOk result (λ left. left ≡ world_in (course_from epochs agenda.now host) epochs) }
+    ensures written { OnOk result (Appends (W.contents writer.old) (W.contents writer.new)
+        (report_in (course_from epochs agenda.now host))) }
+    ensures front { OnErr result (AppendsFront (W.contents writer.old) (W.contents writer.new)
+        (report_in (course_from epochs agenda.now host))) }
+    ensures stays { OnOk result (W.has_failed writer.new ≡ W.has_failed writer.old) }
+    ensures cause { IfErr result (CutShort (W.has_failed writer.old) (W.has_failed writer.new)) }
+{
+    let mut host = host;
+    match tell(alloc, crew, epochs, agenda, &mut host, writer) {
+        Ok(()) => Ok(host),
+        Err(error) => {
+            host.close();
+            Err(error)
+        }
+    }
+}
+
+// A configuration is run to its end.
 fn simulate<RT: Threads + Sync, G: Gate + Sync, W: Sink>(
     alloc: Global,
     crew: &Crew<'_, RT, G>,
@@ -160,16 +234,10 @@ fn simulate<RT: Threads + Sync, G: Gate + Sync, W: Sink>(
         autostart,
         commands,
     };
-    let Ok(mut host) = Host::new(alloc, machine, domains) else {
+    let Ok(host) = Host::new(alloc, machine, domains) else {
         return Err(RunError::Memory);
     };
-    match tell(alloc, crew, epochs, &agenda, &mut host, writer) {
-        Ok(()) => Ok(host),
-        Err(error) => {
-            host.close();
-            Err(error)
-        }
-    }
+    run_to_end(alloc, crew, epochs, &agenda, host, writer)
 }
 
 /// Reads a configuration to the reader's end, runs it, and writes its report: what each boundary did, what was read in each

@@ -6,9 +6,9 @@ ghost use Rattle.vm_sim.specs.declared.run_error.RunError.TheVariants.{Memory, W
 ghost use Rattle.vm_sim.specs.Course.{lines_for, next_world};
 ghost use Rattle.vm_sim.specs.Run.{FailsOnText, MeansConfig};
 
-use crate::agenda::{Agenda, lines_for};
+use crate::agenda::Agenda;
 use crate::run_error::RunError;
-use crate::simulation::boundary;
+use crate::simulation::boundary_before;
 use std::alloc::Global;
 use std::marker::Model;
 use std::thread::Threads;
@@ -148,8 +148,7 @@ fn next_epoch<RT: Threads + Sync, G: Gate + Sync>(
         ≡ next_world (policy_of host.old.machine) (lines_for host.old.names agenda.now number) host.old) }
     ensures memory { IfErr result (λ error. error ≡ Memory) }
 {
-    let lines = lines_for(alloc, host, agenda, number)?;
-    let _told = boundary(alloc, host, &lines)?;
+    let _told = boundary_before(alloc, number, agenda, host)?;
     host.epoch(rt, alloc, gate, workers)?;
     Ok(())
 }

@@ -16,6 +16,3 @@ pub use error::TraceError;
 pub use parse::{parse_step, parse_step_within};
 pub use step::{Action, Queue, Step};
 pub use trace::Trace;
-
-#[cfg(test)]
-mod tests;

@@ -16,9 +16,9 @@ returns-in_err-told-clause-front g c =
     cut_at_end c.from_residual-in_err-told.result _ _ _ (course_from c.args.epochs c.args.agenda.now c.args.host.now) c.loop-number.number (search rules)
     c.loop-number.invariant.written (AppendsFront-none _ _)
 
-pub returns-in_err-write_text-clause-front : goal.returns-in_err-write_text-clause-front
-returns-in_err-write_text-clause-front g c =
-    cut_at_end c.from_residual-in_err-write_text.result _ _ _ (course_from c.args.epochs c.args.agenda.now c.args.host.now) c.loop-number.number (search rules)
+pub returns-in_err-write_told-clause-front : goal.returns-in_err-write_told-clause-front
+returns-in_err-write_told-clause-front g c =
+    cut_at_end c.from_residual-in_err-write_told.result _ _ _ (course_from c.args.epochs c.args.agenda.now c.args.host.now) c.loop-number.number (search rules)
     c.loop-number.invariant.written (search rules)
 
 pub loop-number-preserved : goal.loop-number-preserved

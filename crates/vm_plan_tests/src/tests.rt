@@ -1,0 +1,282 @@
+//! Worked examples of the policy.
+ghost use Rattle.std.specs.Prelude.{◌≡◌, ◌≤◌};
+
+mod limits;
+
+use std::alloc::Global;
+use std::process::Abort;
+use std::test::Fail;
+use vm_plan::{
+    Percents, Plan, PlanRow, State, Stretch, Thresholds, grant, is_blocked, least, next_state,
+    page_count, revocations, revoke,
+};
+
+const PERCENTS: Percents = Percents {
+    high: 600,
+    soft: 400,
+    hard: 200,
+    low: 100,
+};
+
+const ALL_ACTIVE: u32 = 65_536;
+
+/// A guest that holds its target, and uses it.
+fn row(shares: u32, target: u32, min: u32, active: u32) -> PlanRow
+    requires some_shares { 1 ≤ shares }
+    requires few_shares { shares ≤ 1000000 }
+    requires some_min { 1 ≤ min }
+    requires above_min { min ≤ target }
+    requires few_pages { target ≤ 262144 }
+    requires active { active ≤ 65536 }
+    ensures { result.target ≡ result.held }
+{
+    PlanRow {
+        shares,
+        active,
+        min,
+        cap: target,
+        target,
+        held: target,
+        used: target,
+        demand: 0,
+    }
+}
+
+/// A guest of ten pages that may have twenty, and wants some.
+fn wanting(shares: u32, demand: u64) -> PlanRow
+    requires some_shares { 1 ≤ shares }
+    requires few_shares { shares ≤ 1000000 }
+    ensures target { result.target ≡ 10 }
+    ensures held { result.held ≡ 10 }
+{
+    PlanRow {
+        shares,
+        active: ALL_ACTIVE,
+        min: 2,
+        cap: 20,
+        target: 10,
+        held: 10,
+        used: 10,
+        demand,
+    }
+}
+
+/// Asserts the positions of a plan, in order.
+fn check_moves(rt: &impl Abort, alloc: Global, plan: &Plan, positions: &[u32]) -> Result<(), Fail> {
+    let listed: Vec<u32> = plan.moves().collect(alloc)?;
+    assert_eq!(rt; listed.as_slice(), positions);
+    Ok(())
+}
+
+/// Asserts how many frames a guest gives up.
+fn check_count(rt: &impl Abort, state: State, row: &PlanRow, page_rate: u32, count: u32)
+    requires { row.now.target ≤ row.now.held }
+{
+    assert_eq!(rt; page_count(state, row, page_rate), count);
+}
+
+#[test]
+fn thresholds_are_rounded_down(rt: HostRuntime) {
+    let numbers = |frames: u32, percents: Percents| -> [u32; 6]
+        requires { (frames ≤ 262144) × (percents.high ≤ 10000) × (percents.soft ≤ 10000) × (percents.hard ≤ 10000) × (percents.low ≤ 10000) }
+    {
+        let t = Thresholds::of(frames, percents);
+        [t.high, t.soft, t.hard, t.low, t.margin, t.goal]
+    };
+    assert_eq!(rt; numbers(10, PERCENTS), [0, 0, 0, 0, 1, 1]);
+    assert_eq!(rt; numbers(20, PERCENTS), [1, 0, 0, 0, 1, 2]);
+    assert_eq!(rt; numbers(100, PERCENTS), [6, 4, 2, 1, 1, 7]);
+    assert_eq!(rt; numbers(1000, PERCENTS), [60, 40, 20, 10, 10, 70]);
+    assert_eq!(rt;
+        numbers(65536, PERCENTS),
+        [3932, 2621, 1310, 655, 655, 4587]
+    );
+    assert_eq!(rt;
+        numbers(262144, PERCENTS),
+        [15728, 10485, 5242, 2621, 2621, 18349]
+    );
+    let halves = Percents {
+        high: 650,
+        soft: 450,
+        hard: 250,
+        low: 50,
+    };
+    assert_eq!(rt; numbers(1000, halves), [65, 45, 25, 5, 10, 75]);
+}
+
+#[test]
+fn states_fall_at_once_and_rise_by_one(rt: HostRuntime) {
+    let thresholds = Thresholds::of(100, PERCENTS);
+    let ladder = [
+        (State::High, 3, State::Soft),
+        (State::Soft, 6, State::Soft),
+        (State::Soft, 7, State::High),
+        (State::High, 0, State::Low),
+        (State::Low, 9, State::Hard),
+        (State::Low, 1, State::Low),
+        (State::High, 4, State::High),
+    ];
+    for (old, free, new) in ladder {
+        assert_eq!(rt;
+            next_state(old, free, &thresholds),
+            new,
+            "from {old:?} at {free}"
+        );
+    }
+}
+
+#[test]
+fn idle_memory_is_taxed(rt: HostRuntime) -> Result<(), Fail> {
+    let thresholds = Thresholds::of(100, PERCENTS);
+    let rows = [row(100, 10, 2, ALL_ACTIVE), row(100, 5, 2, 0)];
+    assert_eq!(rt; least(7500, &rows), Some(1));
+    let plan = revoke(rt.alloc(), State::Soft, 3, &thresholds, 7500, &rows)?;
+    check_moves(&rt, rt.alloc(), &plan, &[1, 1, 1, 0])?;
+    // Untaxed, and then in High.
+    let plan = revoke(rt.alloc(), State::Soft, 3, &thresholds, 0, &rows)?;
+    check_moves(&rt, rt.alloc(), &plan, &[0, 0, 0, 0])?;
+    let plan = revoke(rt.alloc(), State::High, 3, &thresholds, 7500, &rows)?;
+    check_moves(&rt, rt.alloc(), &plan, &[])?;
+    Ok(())
+}
+
+#[test]
+fn equal_prices_go_to_the_lower_position(rt: HostRuntime) -> Result<(), Fail> {
+    let thresholds = Thresholds::of(100, PERCENTS);
+    let rows = [row(100, 5, 1, ALL_ACTIVE), row(100, 5, 1, ALL_ACTIVE)];
+    let plan = revoke(rt.alloc(), State::Soft, 5, &thresholds, 7500, &rows)?;
+    check_moves(&rt, rt.alloc(), &plan, &[0, 1])?;
+    Ok(())
+}
+
+#[test]
+fn nobody_is_taken_from_at_the_minimum(rt: HostRuntime) {
+    let rows = [row(100, 5, 5, ALL_ACTIVE), row(100, 2, 2, 0)];
+    assert_eq!(rt; least(7500, &rows), None);
+    assert_eq!(rt; least(7500, &[]), None);
+}
+
+#[test]
+fn revocation_ends_at_the_minimum(rt: HostRuntime) -> Result<(), Fail> {
+    let thresholds = Thresholds::of(100, PERCENTS);
+    let rows = [row(100, 3, 2, ALL_ACTIVE)];
+    let plan = revoke(rt.alloc(), State::Low, 0, &thresholds, 7500, &rows)?;
+    check_moves(&rt, rt.alloc(), &plan, &[0])?;
+    Ok(())
+}
+
+#[test]
+fn grants_go_to_the_greatest_price(rt: HostRuntime) -> Result<(), Fail> {
+    let thresholds = Thresholds::of(100, PERCENTS);
+    let first = [wanting(300, 5), wanting(100, 0)];
+    let second = [wanting(300, 0), wanting(100, 5)];
+    let granted = grant(rt.alloc(), State::Soft, 3, &thresholds, 7500, &first)?;
+    check_moves(&rt, rt.alloc(), &granted, &[0])?;
+    let granted = grant(rt.alloc(), State::Soft, 3, &thresholds, 7500, &second)?;
+    check_moves(&rt, rt.alloc(), &granted, &[])?;
+    let granted = grant(rt.alloc(), State::High, 10, &thresholds, 7500, &first)?;
+    check_moves(&rt, rt.alloc(), &granted, &[0, 0, 0, 0, 0])?;
+    let granted = grant(rt.alloc(), State::Low, 10, &thresholds, 7500, &first)?;
+    check_moves(&rt, rt.alloc(), &granted, &[])?;
+    Ok(())
+}
+
+#[test]
+fn equal_prices_go_on_growing(rt: HostRuntime) -> Result<(), Fail> {
+    let thresholds = Thresholds::of(100, PERCENTS);
+    let equal = [wanting(110, 5), wanting(100, 0)];
+    let below = [wanting(109, 5), wanting(100, 0)];
+    let granted = grant(rt.alloc(), State::Soft, 3, &thresholds, 7500, &equal)?;
+    check_moves(&rt, rt.alloc(), &granted, &[0])?;
+    let granted = grant(rt.alloc(), State::Soft, 3, &thresholds, 7500, &below)?;
+    check_moves(&rt, rt.alloc(), &granted, &[])?;
+    Ok(())
+}
+
+#[test]
+fn free_frames_are_asked_for_where_none_moves(rt: HostRuntime) -> Result<(), Fail> {
+    let thresholds = Thresholds::of(100, PERCENTS);
+    let mut above = wanting(100, 5);
+    above.held = 15;
+    let rows = [above];
+    let granted = grant(rt.alloc(), State::High, 4, &thresholds, 7500, &rows)?;
+    check_moves(&rt, rt.alloc(), &granted, &[])?;
+    let granted = grant(rt.alloc(), State::High, 5, &thresholds, 7500, &rows)?;
+    check_moves(&rt, rt.alloc(), &granted, &[0, 0, 0, 0, 0])?;
+    Ok(())
+}
+
+#[test]
+fn grants_stop_at_the_cap_and_at_the_threshold(rt: HostRuntime) -> Result<(), Fail> {
+    let thresholds = Thresholds::of(100, PERCENTS);
+    let mut capped = wanting(100, 5);
+    capped.cap = 12;
+    let granted = grant(rt.alloc(), State::High, 90, &thresholds, 7500, &[capped])?;
+    check_moves(&rt, rt.alloc(), &granted, &[0, 0])?;
+    let rows = [wanting(300, 5), wanting(100, 0)];
+    let granted = grant(rt.alloc(), State::Hard, 3, &thresholds, 7500, &rows)?;
+    check_moves(&rt, rt.alloc(), &granted, &[0, 0])?;
+    // Without a rival.
+    let granted = grant(rt.alloc(), State::Hard, 3, &thresholds, 7500, &[rows[0]])?;
+    check_moves(&rt, rt.alloc(), &granted, &[])?;
+    Ok(())
+}
+
+#[test]
+fn pages_are_counted(rt: HostRuntime) {
+    let mut above = wanting(100, 0);
+    above.held = 15;
+    above.used = 12;
+    check_count(&rt, State::High, &above, 16, 0);
+    check_count(&rt, State::Soft, &above, 16, 2);
+    check_count(&rt, State::Hard, &above, 16, 5);
+    check_count(&rt, State::Low, &above, 4, 4);
+    assert!(rt; is_blocked(State::Low, &above));
+    assert!(rt; !is_blocked(State::Hard, &above));
+    assert!(rt; !is_blocked(State::Low, &wanting(100, 0)));
+}
+
+#[test]
+fn so_many_pages_are_taken(rt: HostRuntime) -> Result<(), Fail> {
+    let rows = [row(100, 10, 2, ALL_ACTIVE), row(100, 5, 2, 0)];
+    let plan = revocations(rt.alloc(), 7500, 4, &rows)?;
+    check_moves(&rt, rt.alloc(), &plan, &[1, 1, 1, 0])?;
+    // None are wanted.
+    let plan = revocations(rt.alloc(), 7500, 0, &rows)?;
+    check_moves(&rt, rt.alloc(), &plan, &[])?;
+    let plan = revocations(rt.alloc(), 7500, u64::MAX, &rows)?;
+    assert_eq!(rt; plan.moves().count(), 11, "all are wanted");
+    // Without guests.
+    let plan = revocations(rt.alloc(), 7500, 3, &[])?;
+    check_moves(&rt, rt.alloc(), &plan, &[])?;
+    Ok(())
+}
+
+#[test]
+fn the_greatest_demand_is_served_to_the_cap(rt: HostRuntime) -> Result<(), Fail> {
+    let thresholds = Thresholds::of(100, PERCENTS);
+    let rows = [wanting(100, 0), wanting(100, u64::MAX)];
+    let plan = grant(rt.alloc(), State::High, 90, &thresholds, 7500, &rows)?;
+    check_moves(&rt, rt.alloc(), &plan, &[1; 10])?;
+    // Without guests.
+    let plan = grant(rt.alloc(), State::High, 90, &thresholds, 7500, &[])?;
+    check_moves(&rt, rt.alloc(), &plan, &[])?;
+    Ok(())
+}
+
+#[test]
+fn equal_positions_are_one_stretch(rt: HostRuntime) -> Result<(), Fail> {
+    let rows = [row(100, 10, 2, ALL_ACTIVE), row(100, 5, 2, 0)];
+    let plan = revocations(rt.alloc(), 7500, 4, &rows)?;
+    let three = Stretch {
+        position: 1,
+        count: 3,
+    };
+    let one = Stretch {
+        position: 0,
+        count: 1,
+    };
+    assert_eq!(rt; plan.stretches(), [three, one].as_slice());
+    assert_eq!(rt; Plan::new(rt.alloc()).stretches(), [].as_slice());
+    Ok(())
+}

@@ -1,0 +1,15 @@
+// Lists for no guests.
+use super::PERCENTS;
+use std::test::Fail;
+use vm_plan::{State, Thresholds, grant, revocations, revoke};
+
+// No memory is wanted for them, so that none can be refused.
+#[test]
+fn without_rows_there_is_a_plan(rt: HostRuntime) -> Result<(), Fail> {
+    let alloc = rt.alloc();
+    let thresholds = Thresholds::of(100, PERCENTS);
+    let _falls = revoke(alloc, State::Low, 0, &thresholds, 7500, &[])?;
+    let _rises = grant(alloc, State::High, 100, &thresholds, 7500, &[])?;
+    let _taken = revocations(alloc, 7500, u64::MAX, &[])?;
+    Ok(())
+}

@@ -1,0 +1,439 @@
+// Pools from their start to their end, by worked examples.
+ghost use Rattle.std.specs.Prelude.{◌≡◌, ◌≤◌, ◌+◌, All, OnOk, length, vec_len};
+ghost use Rattle.vm_trace.specs.Limits.{IsStep, IsWithin};
+
+use std::process::Abort;
+use std::sync::atomic::{AtomicU64, Ordering};
+use std::test::Fail;
+use std::thread::Threads;
+use std::{array, thread};
+use vm_pool::{Gate, GuestSpec, Open, PageRead, Pool};
+use vm_trace::{Bytes, Trace, parse_step_within};
+
+// Adds a step of a guest of this size to a trace that has few.
+fn add_step(trace: &mut Trace, size: u32, text: &str) -> Result<(), Fail>
+    requires some_pages { 1 ≤ size }
+    requires few_pages { size ≤ 262144 }
+    requires within { All (IsWithin size) trace.old }
+    requires bounded { All IsStep trace.old }
+    ensures within { OnOk result (All (IsWithin size) trace.new) }
+    ensures bounded { OnOk result (All IsStep trace.new) }
+    ensures length { OnOk result (length trace.new ≡ length trace.old + 1) }
+{
+    let step = parse_step_within(text, size)?;
+    // To look at a step's action shows its limits.
+    let _ = step.action();
+    trace.push(step)?;
+    Ok(())
+}
+
+// A guest of so many pages with this minimum, which runs one step an epoch.
+fn guest_of(size: u32, min: u32, trace: Trace) -> GuestSpec
+    requires some_frames { 1 ≤ min }
+    requires min_within { min ≤ size }
+    requires few_pages { size ≤ 262144 }
+    requires within { All (IsWithin size) trace }
+    requires bounded { All IsStep trace }
+    requires few { length trace ≤ 1000000 }
+{
+    GuestSpec {
+        size,
+        min,
+        shares: 1000,
+        samples: 100,
+        period: 1000,
+        rate: 16,
+        quantum: 1,
+        seed: 0,
+        stream: 0,
+        tell: true,
+        trace,
+    }
+}
+
+// A pool of 20 frames with two guests: one of 8 pages, which writes and reads its first, and an idle one of 4 pages. Each has a
+// minimum of 4 frames.
+fn two_guests(rt: &(impl AllocGlobal + Abort), overhead: u32) -> Result<Pool, Fail> {
+    let alloc = rt.alloc();
+    let mut trace = Trace::new(alloc);
+    add_step(&mut trace, 8, "w 0 0 0a")?;
+    add_step(&mut trace, 8, "r 0 0 2")?;
+    let specs = Vec::from_array(
+        alloc,
+        [guest_of(8, 4, trace), guest_of(4, 4, Trace::new(alloc))],
+    )?;
+    match Pool::new(alloc, 20, overhead, specs) {
+        Ok(pool) => Ok(pool),
+        Err(_specs) => Err(Fail::from("memory")),
+    }
+}
+
+// Starts a guest that can start.
+fn start(rt: &(impl AllocGlobal + Abort), pool: &mut Pool, position: usize) {
+    assert!(rt; starts(rt, pool, position));
+}
+
+// How many frames a guest is to have, and how many it has.
+fn frames_of(pool: &Pool, position: usize) -> Option<(u32, u32)> {
+    let view = pool.view(position)?;
+    Some((view.target, view.held))
+}
+
+// Grants a frame to a guest that asked for it.
+fn grant(rt: &impl Abort, pool: &mut Pool, position: usize) {
+    assert!(rt; position < pool.len() && pool.free() > 0);
+    let view = pool.view(position).expect(rt, "it runs");
+    assert!(rt; view.demand > 0 && view.target < view.cap);
+    pool.grant(position);
+}
+
+// Revokes a frame of a guest, which gives it back at once.
+fn take_back(rt: &impl Abort, pool: &mut Pool, position: usize) {
+    assert!(rt; position < pool.len());
+    let view = pool.view(position).expect(rt, "it runs");
+    assert!(rt; view.min < view.target);
+    pool.revoke(position);
+    let view = pool.view(position).expect(rt, "it runs");
+    assert!(rt; view.target < view.held);
+    pool.release(position, 1);
+}
+
+// Sets the most frames that a guest may get.
+fn set_cap(rt: &impl Abort, pool: &mut Pool, position: usize, cap: u32) {
+    assert!(rt; position < pool.len());
+    let view = pool.view(position).expect(rt, "it runs");
+    assert!(rt; view.min <= cap && cap <= view.size);
+    pool.set_cap(position, cap);
+}
+
+// The first of two guests gives back one frame that it has above its target.
+fn release_first(rt: &impl Abort, pool: &mut Pool) {
+    assert!(rt; pool.len() == 2);
+    let view = pool.view(0).expect(rt, "it runs");
+    assert!(rt; view.target < view.held);
+    pool.release_all(&[1, 0]);
+}
+
+// Whether a guest may not run in its next epoch.
+fn is_blocked(pool: &Pool, position: usize) -> Option<bool> {
+    Some(pool.view(position)?.blocked)
+}
+
+// Asserts that the first guest may run, or may not.
+fn check_blocked(rt: &impl Abort, pool: &Pool, blocked: bool) {
+    assert_eq!(rt; is_blocked(pool, 0), Some(blocked));
+}
+
+// Asserts the target of the first guest, the frames that it holds, and how many are free.
+fn check_frames(rt: &impl Abort, pool: &Pool, frames: (u32, u32), free: u32) {
+    assert_eq!(rt; (frames_of(pool, 0), pool.free()), (Some(frames), free));
+}
+
+// Sets the minimum of a guest.
+fn set_min(rt: &impl Abort, pool: &mut Pool, position: usize, least: u32) {
+    assert!(rt; sets_min(rt, pool, position, least));
+}
+
+// Serves all guests, takes their spares back, and lets them run.
+fn run(
+    rt: &(impl AllocGlobal + Abort + Threads + Sync),
+    gate: &(impl Gate + Sync),
+    workers: u32,
+    pool: &mut Pool,
+)
+    requires { (1 ≤ workers) × (workers ≤ 64) }
+{
+    pool.serve_all();
+    pool.spares_back_all();
+    pool.epoch(rt, rt.alloc(), gate, workers)
+        .expect(rt, "memory");
+}
+
+#[test]
+fn frames_move_and_add_up(rt: HostRuntime) -> Result<(), Fail> {
+    let mut pool = two_guests(&rt, 1)?;
+    assert_eq!(rt;
+        (
+            pool.len(),
+            pool.frames(),
+            pool.free(),
+            pool.overhead_frames()
+        ),
+        (2, 20, 20, 0)
+    );
+    assert!(rt; !pool.is_running(0) && pool.view(0).is_none() && pool.reserve(0).is_none());
+    start(&rt, &mut pool, 0);
+    start(&rt, &mut pool, 1);
+    assert!(rt; pool.is_running(0) && pool.stopped(0).is_none());
+    assert_eq!(rt; (pool.free(), pool.overhead_frames()), (10, 2));
+    assert_eq!(rt;
+        (frames_of(&pool, 0), pool.reserve(0)),
+        (Some((4, 4)), Some(4))
+    );
+
+    grant(&rt, &mut pool, 0);
+    check_frames(&rt, &pool, (5, 5), 9);
+    take_back(&rt, &mut pool, 0);
+    check_frames(&rt, &pool, (4, 4), 10);
+    set_min(&rt, &mut pool, 0, 7);
+    assert_eq!(rt;
+        (frames_of(&pool, 0), pool.free(), pool.reserve(0)),
+        (Some((7, 7)), 7, Some(4))
+    );
+    set_min(&rt, &mut pool, 0, 2);
+    assert_eq!(rt;
+        (frames_of(&pool, 0), pool.free(), pool.reserve(0)),
+        (Some((7, 7)), 7, Some(6))
+    );
+    pool.stop(0);
+    assert_eq!(rt;
+        (pool.free(), pool.overhead_frames(), pool.view(0)),
+        (15, 1, None)
+    );
+    pool.close();
+    Ok(())
+}
+
+// Where guests wait for it, one that holds more than its target may not run.
+#[test]
+fn a_guest_above_its_target_waits(rt: HostRuntime) -> Result<(), Fail> {
+    let mut pool = two_guests(&rt, 1)?;
+    start(&rt, &mut pool, 0);
+    start(&rt, &mut pool, 1);
+    grant(&rt, &mut pool, 0);
+    grant(&rt, &mut pool, 0);
+    set_cap(&rt, &mut pool, 0, 5);
+    check_frames(&rt, &pool, (5, 6), 8);
+    pool.order_all(true);
+    assert_eq!(rt;
+        (is_blocked(&pool, 0), is_blocked(&pool, 1)),
+        (Some(true), Some(false))
+    );
+    run(&rt, &Open, 2, &mut pool);
+    assert_eq!(rt; (done(&pool, 0), pool.free()), (Some(0), 9));
+    pool.order_all(true);
+    check_blocked(&rt, &pool, false);
+    run(&rt, &Open, 2, &mut pool);
+    assert_eq!(rt; done(&pool, 0), Some(1));
+    pool.close();
+    Ok(())
+}
+
+// Guests give frames up side by side, and get their orders where nobody waits.
+#[test]
+fn all_guests_at_once(rt: HostRuntime) -> Result<(), Fail> {
+    let mut pool = two_guests(&rt, 0)?;
+    start(&rt, &mut pool, 0);
+    start(&rt, &mut pool, 1);
+    grant(&rt, &mut pool, 0);
+    set_cap(&rt, &mut pool, 0, 4);
+    check_frames(&rt, &pool, (4, 5), 11);
+    pool.order_all(false);
+    check_blocked(&rt, &pool, false);
+    release_first(&rt, &mut pool);
+    check_frames(&rt, &pool, (4, 4), 12);
+    assert_eq!(rt;
+        (frames_of(&pool, 1), pool.stats(1).is_some()),
+        (Some((4, 4)), true)
+    );
+    pool.set_shares(1, 500);
+    assert_eq!(rt; pool.view(1).expect(&rt, "it runs").shares, 500);
+    pool.close();
+    Ok(())
+}
+
+// Each of two tickets sets its own mark, and looks for the other's.
+#[derive(Drop)]
+struct Meeting {
+    marks: [AtomicU64; 2],
+    met: [AtomicU64; 2],
+}
+
+fn nobody_met() -> Meeting {
+    Meeting {
+        marks: [AtomicU64::new(0), AtomicU64::new(0)],
+        met: [AtomicU64::new(0), AtomicU64::new(0)],
+    }
+}
+
+impl Gate for Meeting {
+    fn enter(&self, number: u32) {
+        if number >= 2 {
+            return;
+        }
+        let mine = number as usize;
+        let other = 1 - mine;
+        self.marks[mine].store(1, Ordering::SeqCst);
+        for _ in 0..1_000_000 {
+            if self.marks[other].load(Ordering::SeqCst) == 1 {
+                self.met[mine].store(1, Ordering::SeqCst);
+                return;
+            }
+            thread::yield_now();
+        }
+    }
+
+    fn leave(&self, _number: u32) {}
+}
+
+// How many steps a guest has done.
+fn done(pool: &Pool, position: usize) -> Option<u32> {
+    Some(pool.view(position)?.done)
+}
+
+// Asserts how many steps the first guest and the second have done.
+fn check_done(rt: &impl Abort, pool: &Pool, steps: [u32; 2]) {
+    let [first, second] = steps;
+    assert_eq!(rt; (done(pool, 0), done(pool, 1)), (Some(first), Some(second)));
+}
+
+#[test]
+fn two_tickets_at_once(rt: HostRuntime) -> Result<(), Fail> {
+    let mut pool = two_guests(&rt, 0)?;
+    start(&rt, &mut pool, 0);
+    start(&rt, &mut pool, 1);
+    let gate = nobody_met();
+    run(&rt, &gate, 2, &mut pool);
+    assert!(rt; gate.met[0].load(Ordering::SeqCst) == 1 && gate.met[1].load(Ordering::SeqCst) == 1);
+    check_done(&rt, &pool, [1, 0]);
+    pool.close();
+    Ok(())
+}
+
+// What passed the gate, in order: 2 n + 1 where the number n entered it, and 2 n + 2 where it left.
+#[derive(Drop)]
+struct Passages {
+    count: AtomicU64,
+    which: [AtomicU64; 4],
+}
+
+fn no_passages() -> Passages {
+    Passages {
+        count: AtomicU64::new(0),
+        which: array::from_fn(|_: usize| AtomicU64::new(0)),
+    }
+}
+
+fn note(passages: &Passages, which: u64) {
+    let place = passages.count.fetch_add(1, Ordering::SeqCst);
+    if place < 4 {
+        passages.which[place as usize].store(which, Ordering::SeqCst);
+    }
+}
+
+impl Gate for Passages {
+    fn enter(&self, number: u32) {
+        note(self, 2 * u64::from(number) + 1);
+    }
+
+    fn leave(&self, number: u32) {
+        note(self, 2 * u64::from(number) + 2);
+    }
+}
+
+fn passed(passages: &Passages) -> [u64; 4] {
+    let which = &passages.which;
+    [
+        which[0].load(Ordering::SeqCst),
+        which[1].load(Ordering::SeqCst),
+        which[2].load(Ordering::SeqCst),
+        which[3].load(Ordering::SeqCst),
+    ]
+}
+
+// One worker serves the running guests in order, each between its entry and its exit. A stopped guest has no number.
+#[test]
+fn one_worker_serves_in_order(rt: HostRuntime) -> Result<(), Fail> {
+    let mut pool = two_guests(&rt, 0)?;
+    start(&rt, &mut pool, 1);
+    let alone = no_passages();
+    run(&rt, &alone, 1, &mut pool);
+    assert_eq!(rt; passed(&alone), [1, 2, 0, 0]);
+    start(&rt, &mut pool, 0);
+    let both = no_passages();
+    run(&rt, &both, 1, &mut pool);
+    assert_eq!(rt; passed(&both), [1, 2, 3, 4]);
+    check_done(&rt, &pool, [1, 0]);
+    pool.close();
+    Ok(())
+}
+
+// One worker meets nobody.
+#[test]
+fn one_ticket_at_a_time(rt: HostRuntime) -> Result<(), Fail> {
+    let mut pool = two_guests(&rt, 0)?;
+    start(&rt, &mut pool, 0);
+    start(&rt, &mut pool, 1);
+    let gate = nobody_met();
+    run(&rt, &gate, 1, &mut pool);
+    assert_eq!(rt; gate.met[0].load(Ordering::SeqCst), 0);
+    pool.close();
+    Ok(())
+}
+
+// A guest beside one that is stopped runs as ever, and its memory is shown.
+#[test]
+fn the_others_wait(rt: HostRuntime) -> Result<(), Fail> {
+    let mut pool = two_guests(&rt, 0)?;
+    start(&rt, &mut pool, 0);
+    run(&rt, &Open, 64, &mut pool);
+    run(&rt, &Open, 1, &mut pool);
+    let read = PageRead {
+        page: 0,
+        offset: 0,
+        bytes: Bytes::from_slice(&[0x0a, 0]),
+    };
+    assert_eq!(rt; pool.reads(0), Some([read].as_slice()));
+    assert_eq!(rt; (pool.reads(1), done(&pool, 0)), (None, Some(2)));
+    let mut bytes = [7; 4096];
+    assert!(rt; pool.peek(0, 0, &mut bytes) && bytes[0] == 0x0a);
+    assert!(rt; !pool.peek(0, 8, &mut bytes) && !pool.peek(1, 0, &mut bytes));
+    pool.close();
+    Ok(())
+}
+
+// Starts a guest that can start, and tells whether there was memory for it.
+fn starts(rt: &(impl AllocGlobal + Abort), pool: &mut Pool, position: usize) -> bool {
+    assert!(rt; position < pool.len());
+    let min = pool.stopped(position).expect(rt, "it is stopped").min;
+    assert!(rt; u64::from(min) + u64::from(pool.overhead()) <= u64::from(pool.free()));
+    match pool.room_to_start(rt.alloc(), position) {
+        Ok(room) => {
+            pool.start(position, room);
+            true
+        }
+        Err(_) => false,
+    }
+}
+
+// Sets the minimum of a guest, and tells whether there was memory for it.
+fn sets_min(rt: &impl Abort, pool: &mut Pool, position: usize, least: u32) -> bool {
+    assert!(rt; position < pool.len() && least >= 1);
+    let view = pool.view(position).expect(rt, "it runs");
+    assert!(rt; least <= view.cap && least.saturating_sub(view.held) <= pool.free());
+    pool.set_min(position, least).is_ok()
+}
+
+// Serves all guests and lets them run, and tells whether there was memory for it.
+fn runs(rt: &(impl AllocGlobal + Threads + Sync), pool: &mut Pool) -> bool {
+    pool.serve_all();
+    pool.epoch(rt, rt.alloc(), &Open, 2).is_ok()
+}
+
+// At each request for memory that fails in turn, the call that made it changes nothing. A raised minimum makes none.
+#[test]
+fn where_memory_is_refused_nothing_changes(rt: HostRuntime) -> Result<(), Fail> {
+    let mut pool = two_guests(&rt, 1)?;
+    let started = starts(&rt, &mut pool, 0);
+    assert_eq!(rt; pool.is_running(0), started);
+    assert_eq!(rt; pool.free(), if started { 15 } else { 20 });
+    if started {
+        let ran = runs(&rt, &mut pool);
+        assert_eq!(rt; done(&pool, 0), Some(u32::from(ran)));
+        assert!(rt; sets_min(&rt, &mut pool, 0, 5));
+        let set = sets_min(&rt, &mut pool, 0, 2);
+        assert_eq!(rt; pool.reserve(0), Some(if set { 6 } else { 4 }));
+    }
+    pool.close();
+    Ok(())
+}

@@ -1,0 +1,77 @@
+// The greatest number of domains, and of a domain's pages.
+use super::setup::{assert_bytes, assert_fault, fault, fault_of, text, with_room};
+use std::alloc::{AllocError, Global};
+use std::test::Fail;
+use vm_sim::{Open, run};
+
+const DOMAINS: u32 = 256;
+
+// Domains of one page, each of which writes its number there and reads it.
+fn many_domains(alloc: Global) -> Result<String, AllocError> {
+    let mut config = String::from_str(
+        alloc,
+        "{\"version\":2,\"frames\":300,\"epochs\":1,\"guests\":[",
+    )?;
+    for number in 0..DOMAINS {
+        let comma = if number == 0 { "" } else { "," };
+        write!(
+            config,
+            "{comma}{{\"name\":\"g{number}\",\"size\":1,\"min\":1,\"trace\":[\"w 0 0 {number:02x}\",\"r 0 0 1\"]}}"
+        )?;
+    }
+    config.push_str("]}")?;
+    Ok(config)
+}
+
+// What is told of them.
+fn report_of_many(alloc: Global) -> Result<String, AllocError> {
+    let mut report = String::from_str(alloc, "epoch 0\n")?;
+    for number in 0..DOMAINS {
+        writeln!(report, "> start g{number}\nok")?;
+    }
+    report.push_str("state high free 44\n")?;
+    for number in 0..DOMAINS {
+        writeln!(report, "g{number} r 0 0 {number:02x}")?;
+    }
+    report.push_str("end\n")?;
+    for number in 0..DOMAINS {
+        writeln!(
+            report,
+            "g{number} target 1 held 1 swapped 0 balloon 0 active 65536 bad 0 done 2"
+        )?;
+    }
+    report.push_str("machine 300 held 256 free 44 overhead 0\n")?;
+    Ok(report)
+}
+
+#[test]
+fn all_256_domains_run(rt: HostRuntime) -> Result<(), Fail> {
+    let alloc = rt.alloc();
+    let config = many_domains(alloc)?;
+    let report = report_of_many(alloc)?;
+    let mut writer = with_room(alloc, 100_000);
+    let mut reader = text(config.as_bytes());
+    let outcome = run(&rt, alloc, &Open, 64, &mut reader, &mut writer);
+    assert_fault(&rt, fault_of(outcome), None);
+    assert_bytes(&rt, writer.held.as_slice(), report.as_bytes());
+    Ok(())
+}
+
+// The last page of 262144 is the first that goes into the balloon, so the guest waits for it until the next boundary.
+const LAST_PAGE: &str =
+    "{\"version\":2,\"frames\":100,\"swap\":262142,\"epochs\":2,\"guests\":[{\"name\":\"big\",\"size\":262144,\
+\"min\":2,\"trace\":[\"w 262143 4095 ff\",\"r 262143 4095 1\"]}]}";
+
+const LAST_PAGE_REPORT: &str =
+    "epoch 0\n> start big\nok\nstate high free 98\ngrant big 94\nbig stall 262143\n\
+epoch 1\nstate high free 4\nbig r 262143 4095 ff\nend\n\
+big target 96 held 96 swapped 0 balloon 15 active 65536 bad 0 done 2\n\
+machine 100 held 96 free 4 overhead 0\n";
+
+#[test]
+fn a_guest_uses_the_last_of_262144_pages(rt: HostRuntime) {
+    let mut writer = with_room(rt.alloc(), 10_000);
+    let outcome = fault(&rt, &mut text(LAST_PAGE.as_bytes()), &mut writer);
+    assert_fault(&rt, outcome, None);
+    assert_bytes(&rt, writer.held.as_slice(), LAST_PAGE_REPORT.as_bytes());
+}

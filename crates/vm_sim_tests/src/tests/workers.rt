@@ -1,0 +1,117 @@
+// Any number of workers.
+use super::setup::{
+    FIRST_READ, FIRST_READ_REPORT, FIVE_GUESTS, FIVE_GUESTS_REPORT, LOW_AND_BACK,
+    LOW_AND_BACK_REPORT, OVERHEAD_ADMITTED, OVERHEAD_ADMITTED_REPORT, assert_bytes, assert_fault,
+    assert_length, assert_reader_failed, fault_of, text, with_room,
+};
+use std::process::Abort;
+use std::sync::atomic::{AtomicU64, Ordering};
+use std::thread;
+use std::thread::Threads;
+use vm_sim::{Gate, Open, RunError, run};
+
+// Asserts what so many workers write for a configuration.
+fn assert_report(
+    rt: &(impl Abort + AllocGlobal + Threads + Sync),
+    workers: u32,
+    input: &str,
+    report: &str,
+) {
+    let mut writer = with_room(rt.alloc(), 10_000);
+    let mut reader = text(input.as_bytes());
+    let outcome = run(rt, rt.alloc(), &Open, workers, &mut reader, &mut writer);
+    assert_eq!(rt; fault_of(outcome), None, "{workers} {input}");
+    assert_eq!(rt;
+        writer.held.as_slice(),
+        report.as_bytes(),
+        "{workers} {input}"
+    );
+}
+
+#[test]
+fn reports_are_the_same_for_all_workers(rt: HostRuntime) {
+    let examples = [
+        (FIRST_READ, FIRST_READ_REPORT),
+        (FIVE_GUESTS, FIVE_GUESTS_REPORT),
+        (LOW_AND_BACK, LOW_AND_BACK_REPORT),
+    ];
+    for workers in [1, 2, 5, 64] {
+        for (input, report) in examples {
+            assert_report(&rt, workers, input, report);
+        }
+    }
+}
+
+#[test]
+fn workers_come_first(rt: HostRuntime) {
+    for workers in [0, 65] {
+        let mut reader = text(FIRST_READ.as_bytes());
+        let mut writer = with_room(rt.alloc(), 10_000);
+        let outcome = run(&rt, rt.alloc(), &Open, workers, &mut reader, &mut writer);
+        assert_fault(&rt, fault_of(outcome), Some(RunError::Workers));
+        assert_length(&rt, reader.bytes, FIRST_READ.len());
+        assert_reader_failed(&rt, &reader, false);
+        assert_length(&rt, writer.held.as_slice(), 0);
+    }
+}
+
+// Each of two guests sets its own mark, and looks for the other's.
+#[derive(Drop)]
+struct Meeting {
+    marks: [AtomicU64; 2],
+    met: [AtomicU64; 2],
+}
+
+fn nobody_met() -> Meeting {
+    Meeting {
+        marks: [AtomicU64::new(0), AtomicU64::new(0)],
+        met: [AtomicU64::new(0), AtomicU64::new(0)],
+    }
+}
+
+impl Gate for Meeting {
+    fn enter(&self, number: u32) {
+        if number >= 2 {
+            return;
+        }
+        let mine = number as usize;
+        let other = 1 - mine;
+        self.marks[mine].store(1, Ordering::SeqCst);
+        for _ in 0..1_000_000 {
+            if self.marks[other].load(Ordering::SeqCst) == 1 {
+                self.met[mine].store(1, Ordering::SeqCst);
+                return;
+            }
+            thread::yield_now();
+        }
+    }
+
+    fn leave(&self, _number: u32) {}
+}
+
+// Asserts that each guest met the other.
+fn assert_met(rt: &impl Abort, gate: &Meeting) {
+    assert!(rt; gate.met[0].load(Ordering::SeqCst) == 1 && gate.met[1].load(Ordering::SeqCst) == 1);
+}
+
+// One thread alone fails here, in whatever order it runs the guests.
+#[test]
+fn two_tickets_at_once(rt: HostRuntime) {
+    let gate = nobody_met();
+    let mut writer = with_room(rt.alloc(), 10_000);
+    let outcome = run(
+        &rt,
+        rt.alloc(),
+        &gate,
+        2,
+        &mut text(OVERHEAD_ADMITTED.as_bytes()),
+        &mut writer,
+    );
+    assert_fault(&rt, fault_of(outcome), None);
+    assert_bytes(
+        &rt,
+        writer.held.as_slice(),
+        OVERHEAD_ADMITTED_REPORT.as_bytes(),
+    );
+    assert_met(&rt, &gate);
+}

@@ -1,0 +1,169 @@
+// The table of steps and faults, and a trace.
+use std::test::Fail;
+use vm_trace::{Action, Bytes, Queue, Trace, TraceError, parse_step, parse_step_within};
+
+#[test]
+fn first_faults(rt: HostRuntime) {
+    for (text, fault) in [
+        ("", TraceError::Unknown),
+        ("x 1", TraceError::Unknown),
+        ("r 0 0", TraceError::Unknown),
+        ("p q 00", TraceError::Unknown),
+        ("r  0 0 1", TraceError::Unknown),
+        (" i", TraceError::Unknown),
+        ("p i ", TraceError::Unknown),
+        ("f", TraceError::Unknown),
+        ("r a 0 1 2", TraceError::Unknown),
+        ("r a 0 1", TraceError::Number),
+        ("r 00000000000 0 1", TraceError::Number),
+        ("r +1 0 1", TraceError::Number),
+        ("r 65536 0 1", TraceError::Range),
+        ("r 4294967296 0 1", TraceError::Range),
+        ("r 0 4096 1", TraceError::Range),
+        ("r 0 0 17", TraceError::Range),
+        ("r 0 0 0", TraceError::Range),
+        ("r 0 4095 2", TraceError::Range),
+        ("w 65536 0 fg", TraceError::Range),
+        ("w 0 0 fg", TraceError::Hex),
+        ("w 0 0 fff", TraceError::Hex),
+        (
+            "w 0 0 00112233445566778899aabbccddeeff00",
+            TraceError::Length,
+        ),
+        ("w 0 4095 ffff", TraceError::Range),
+    ] {
+        assert_eq!(rt; parse_step(text), Err(fault), "at {text:?}");
+    }
+    assert_eq!(rt;
+        parse_step_within("w 65536 0 fg", 262144),
+        Err(TraceError::Hex)
+    );
+}
+
+#[test]
+fn steps_are_read(rt: HostRuntime) -> Result<(), Fail> {
+    assert_eq!(rt; parse_step("i")?.action(), Action::Idle);
+    assert_eq!(rt; parse_step("f 0")?.action(), Action::Free { page: 0 });
+    let read = Action::Read {
+        page: 65535,
+        offset: 4080,
+        len: 16,
+    };
+    assert_eq!(rt; parse_step("r 0000065535 4080 16")?.action(), read);
+    let last_page = Action::Free { page: 262143 };
+    assert_eq!(rt; parse_step_within("f 262143", 262144)?.action(), last_page);
+    let Action::Post { queue, bytes } = parse_step("p d 03000000")?.action() else {
+        return Err(Fail::from("no post"));
+    };
+    assert_eq!(rt; queue, Queue::Deflate);
+    assert_eq!(rt; bytes.as_slice(), [3, 0, 0, 0].as_slice());
+    Ok(())
+}
+
+#[test]
+fn writes_are_read(rt: HostRuntime) -> Result<(), Fail> {
+    let two = Action::Write {
+        page: 0,
+        offset: 0,
+        bytes: Bytes::from_slice(&[0xff, 0xfe]),
+    };
+    assert_eq!(rt; parse_step("w 0 0 FFfe")?.action(), two);
+    let last = Action::Write {
+        page: 0,
+        offset: 4095,
+        bytes: Bytes::from_slice(&[0xff]),
+    };
+    assert_eq!(rt; parse_step("w 0 4095 ff")?.action(), last);
+    Ok(())
+}
+
+#[test]
+fn pages_are_compared(rt: HostRuntime) -> Result<(), Fail> {
+    assert!(rt; parse_step("f 7")?.is_within(8));
+    assert!(rt; !parse_step("f 7")?.is_within(7));
+    assert!(rt; !parse_step("w 7 0 ff")?.is_within(7));
+    assert!(rt; parse_step("p i 07000000")?.is_within(1));
+    Ok(())
+}
+
+#[test]
+fn bytes_lie_in_place(rt: HostRuntime) {
+    let bytes = Bytes::from_slice(&[1, 2, 3]);
+    assert_eq!(rt; bytes.len(), 3);
+    assert_eq!(rt; bytes.as_slice(), [1, 2, 3].as_slice());
+    assert!(rt; !bytes.is_empty());
+    assert!(rt; Bytes::from_slice(&[]).is_empty());
+}
+
+#[test]
+fn posts_have_at_most_64_bytes(rt: HostRuntime) -> Result<(), Fail> {
+    let alloc = rt.alloc();
+    let mut text = String::from_str(alloc, "p i ")?;
+    for _ in 0..64 {
+        text.push_str("ff")?;
+    }
+    assert!(rt; parse_step(text.as_str()).is_ok());
+    text.push_str("ff")?;
+    assert_eq!(rt; parse_step(text.as_str()), Err(TraceError::Length));
+    Ok(())
+}
+
+#[test]
+fn traces_keep_their_order(rt: HostRuntime) -> Result<(), Fail> {
+    let mut trace = Trace::new(rt.alloc());
+    assert!(rt; trace.is_empty());
+    let free = parse_step("f 3")?;
+    let idle = parse_step("i")?;
+    trace.push(free)?;
+    trace.push(idle)?;
+    assert!(rt; !trace.is_empty());
+    assert_eq!(rt; trace.len(), 2);
+    assert_eq!(rt; trace.step(0), Some(free));
+    assert_eq!(rt; trace.step(1), Some(idle));
+    assert_eq!(rt; trace.step(2), None);
+    Ok(())
+}
+
+#[test]
+fn traces_keep_the_bytes_of_each_step(rt: HostRuntime) -> Result<(), Fail> {
+    let texts = [
+        "w 262143 4080 000102030405060708090a0b0c0d0e0f",
+        "p s 000102",
+        "i",
+        "w 0 4095 fF",
+        "r 1 4080 16",
+        "f 2",
+        "p d 03000000",
+    ];
+    let mut trace = Trace::with_capacity(rt.alloc(), 2)?;
+    assert!(rt; trace.is_empty());
+    for text in texts {
+        trace.push(parse_step_within(text, 262144)?)?;
+    }
+    assert_eq!(rt; trace.len(), 7);
+    let last_byte = Action::Write {
+        page: 0,
+        offset: 4095,
+        bytes: Bytes::from_slice(&[0xff]),
+    };
+    assert_eq!(rt; trace.step(3).map(|step| step.action()), Some(last_byte));
+    for (place, text) in texts.iter().enumerate() {
+        assert_eq!(rt; trace.step(place), Some(parse_step_within(text, 262144)?));
+    }
+    Ok(())
+}
+
+#[test]
+fn faults_read(rt: HostRuntime) -> Result<(), Fail> {
+    for (fault, number, text) in [
+        (TraceError::Unknown, 1, "unknown step"),
+        (TraceError::Number, 2, "not a number"),
+        (TraceError::Range, 3, "out of range"),
+        (TraceError::Hex, 4, "not hexadecimal bytes"),
+        (TraceError::Length, 5, "too many bytes"),
+    ] {
+        assert_eq!(rt; fault as u8, number);
+        assert_eq!(rt; fault.to_string(rt.alloc())?.as_str(), text);
+    }
+    Ok(())
+}
