@@ -329,6 +329,7 @@ impl Guest {
             progress: _,
             draft,
         } = parts;
+        // By one call: each part's own drop written out here would be dear to check.
         drop((used, free, device, sampler, used_early, reads, draft));
         memory.close(spec.size, machine);
         spec
