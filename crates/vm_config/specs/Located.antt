@@ -1,5 +1,5 @@
--- The configuration that a text is, or the first fault of the text with its place. Each definition is the one in `Reading.antt`,
--- with the place of each key.
+-- The configuration that a text is, or the first fault of the text with its place. The definitions are those of `Reading.antt`, with
+-- the place of each key; the keys of a guest, and the first ones of the root, are read here in groups.
 use Rattle.std.specs.Prelude.{ℕ, ◌==◌, List, [], ◌∷◌, ◌++◌, length, true, if◌then◌else◌, Result, Ok}
 use Rattle.serde_json.specs.Data.{Data}
 use Rattle.serde_json.specs.Find.{get}
