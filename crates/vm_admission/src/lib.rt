@@ -10,6 +10,3 @@ mod error;
 
 pub use books::Books;
 pub use error::AdmissionError;
-
-#[cfg(test)]
-mod tests;

@@ -11,7 +11,5 @@ mod furniture;
 mod samples;
 mod scale;
 mod svg;
-#[cfg(test)]
-mod tests;
 
 pub use charts::svg_text;

@@ -120,24 +120,3 @@ fn discard(mut frames: Vec<Frame>) {
     }
     frames.destroy_empty();
 }
-
-#[cfg(test)]
-mod tests {
-    use super::*;
-
-    #[test]
-    #[tactic(auto, using(crate::proofs::NumberSets::set_members))]
-    fn each_frame_is_taken_once(rt: HostRuntime) {
-        let mut machine = Machine::new(rt.alloc(), 2).expect(&rt, "memory");
-        let first = machine.take().expect(&rt, "a free frame");
-        let second = machine.take().expect(&rt, "a free frame");
-        assert_eq!(rt; machine.total(), 2);
-        assert_ne!(rt; first.number(), second.number());
-        assert_eq!(rt; machine.free(), 0);
-        machine.give(second);
-        assert_eq!(rt; machine.free(), 1);
-        machine.give(first);
-        assert_eq!(rt; machine.free(), 2);
-        machine.close();
-    }
-}

@@ -9,8 +9,6 @@ mod error;
 mod find;
 mod number;
 mod reading;
-#[cfg(test)]
-mod tests;
 
 pub use error::ReadError;
 pub use find::{into_items, is_object, items, member, take_member, text, truth};

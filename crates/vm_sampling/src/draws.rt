@@ -129,37 +129,3 @@ fn redraw(drawn: &mut [u32], draws_of: &mut [u16], words: &mut Words)
         draws_of[page as usize] += 1;
     }
 }
-
-#[cfg(test)]
-mod tests {
-    use super::*;
-    use std::test::Fail;
-
-    // One of four pages for each period, by these words in turn: 2, 1, 2, 2, 2, 3.
-    #[test]
-    fn draws_that_are_due(rt: HostRuntime) -> Result<(), Fail> {
-        let mut words = Words::new(42, 54);
-        let mut draws = Draws::new(rt.alloc(), 1, 4, &mut words)?;
-        assert_eq!(rt; draws.count_of(2), 1);
-        draws.renew(&mut words);
-        assert_eq!(rt; (draws.count_of(1), draws.count_of(2)), (1, 0));
-        draws.renew(&mut words);
-        draws.renew(&mut words);
-        draws.renew(&mut words);
-        draws.renew(&mut words);
-        assert_eq!(rt; (draws.count_of(2), draws.count_of(3)), (0, 1));
-        assert_eq!(rt; draws.len(), 1);
-        Ok(())
-    }
-
-    // The draws of two words are made after the words were used by others.
-    #[test]
-    fn words_of_others(rt: HostRuntime) -> Result<(), Fail> {
-        let mut words = Words::new(42, 54);
-        let mut draws = Draws::new(rt.alloc(), 2, 4, &mut words)?;
-        draws.renew(&mut words);
-        assert_eq!(rt; words.pick(4), 2);
-        assert_eq!(rt; (draws.count_of(2), draws.count_of(1)), (2, 0));
-        Ok(())
-    }
-}

@@ -7,6 +7,3 @@
 mod area;
 
 pub use area::{PAGE_BYTES, PAGE_LIMIT, SwapArea};
-
-#[cfg(test)]
-mod tests;

@@ -1,0 +1,7 @@
+//! The tests of whole runs: of `vm_sim`, `vm_series`, `vm_command_line` and of the two programs, by their public calls.
+//!
+//! They are one crate of their own, since each crate of such tests is made into a program with all that is below it.
+#![tactic(auto)]
+
+#[cfg(test)]
+mod tests;

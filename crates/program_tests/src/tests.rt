@@ -1,0 +1,11 @@
+mod charts;
+mod command_line;
+mod ends;
+mod hosts;
+mod limits;
+mod series;
+mod setup;
+mod system;
+mod vmmem;
+mod vmseries;
+mod workers;

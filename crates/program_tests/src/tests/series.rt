@@ -1,0 +1,99 @@
+// Rows and comma-separated values of whole runs, as the rules of a run give them.
+use super::setup::{LOW_AND_BACK, assert_bytes};
+use std::process::Abort;
+use std::test::Fail;
+use std::thread::Threads;
+use vm_host::{Open, State};
+use vm_series::{EpochRow, Series, collect_series, csv_text};
+use vm_sim::{ConfigError, RunError};
+
+const HEADER: &str =
+    "epoch,state,free,guest,target,held,resident,swapped,balloon,active,demand,blocked,stalled\r\n";
+
+const LOW_AND_BACK_RECORDS: &str = "0,high,4,a,96,96,0,0,0,65536,0,0,\r\n\
+1,low,1,a,88,94,0,0,4,65536,0,1,\r\n1,low,1,b,5,5,0,0,0,65536,0,0,\r\n\
+2,hard,7,a,88,88,1,0,4,65536,0,0,\r\n2,hard,7,b,5,5,0,0,0,65536,0,0,\r\n\
+3,soft,7,a,88,88,2,0,12,65536,0,0,\r\n3,soft,7,b,5,5,0,0,0,65536,0,0,\r\n";
+
+// One guest, which stalls on page 2 in its first epoch and is stopped before its second.
+const STALLED: &str =
+    "{\"version\":1,\"frames\":100,\"swap\":2,\"epochs\":2,\"guests\":[{\"name\":\"g\",\"size\":4,\"min\":2,\
+\"samples\":1,\"seed\":42,\"stream\":54,\"trace\":[\"w 0 0 aa\",\"w 1 0 bb\",\"w 2 0 cc\",\"r 0 0 1\"]}],\
+\"commands\":[{\"at\":0,\"line\":\"setmem g 8\"},{\"at\":1,\"line\":\"destroy g\"}]}";
+
+const STALLED_RECORDS: &str = "0,high,98,g,2,2,2,0,0,65536,0,0,2\r\n1,high,100,,,,,,,,,,\r\n";
+
+// Asserts the records of a configuration that is run on so many workers.
+fn assert_records(
+    rt: &(impl Abort + AllocGlobal + Threads + Sync),
+    workers: u32,
+    config: &str,
+    records: &str,
+) -> Result<(), Fail> {
+    let alloc = rt.alloc();
+    let series = collect_series(rt, alloc, &Open, workers, config.as_bytes()).expect(rt, "a run");
+    let text = csv_text(alloc, &series)?;
+    let wanted = format!(in alloc; "{HEADER}{records}")?;
+    assert_bytes(rt, text.as_slice(), wanted.as_bytes());
+    Ok(())
+}
+
+#[test]
+fn rows_become_records(rt: HostRuntime) -> Result<(), Fail> {
+    for workers in [1, 2] {
+        assert_records(&rt, workers, LOW_AND_BACK, LOW_AND_BACK_RECORDS)?;
+        assert_records(&rt, workers, STALLED, STALLED_RECORDS)?;
+    }
+    Ok(())
+}
+
+// Asserts frames, names and rows.
+fn assert_sizes(rt: &impl Abort, series: &Series, wanted: (u32, usize, usize)) {
+    let sizes = (series.frames(), series.names().len(), series.rows().len());
+    assert_eq!(rt; sizes, wanted);
+}
+
+// Asserts epoch, state and free frames.
+fn assert_host(rt: &impl Abort, row: &EpochRow, wanted: (u32, State, u32)) {
+    assert_eq!(rt; (row.epoch(), row.state(), row.free()), wanted);
+}
+
+// Asserts what each guest held: a domain without a guest has none.
+fn assert_held(rt: &impl Abort, row: &EpochRow, wanted: [Option<u32>; 3]) {
+    let held = [0, 1, 2].map(|position| row.view(position).map(|view| view.held));
+    assert_eq!(rt; held, wanted);
+}
+
+#[test]
+fn a_series_can_be_read(rt: HostRuntime) {
+    let alloc = rt.alloc();
+    let series = collect_series(&rt, alloc, &Open, 1, LOW_AND_BACK.as_bytes()).expect(&rt, "a run");
+    assert_sizes(&rt, &series, (100, 2, 4));
+    let row = series.rows().get(1).expect(&rt, "a second row");
+    assert_host(&rt, row, (1, State::Low, 1));
+    assert_held(&rt, row, [Some(94), Some(5), None]);
+    assert_shows_guests(&rt, row, 2);
+}
+
+// Asserts that there are guests, and how many domains are shown.
+fn assert_shows_guests(rt: &impl Abort, row: &EpochRow, domains: usize) {
+    assert_eq!(rt; (row.has_guests(), row.views().len()), (true, domains));
+}
+
+// Asserts why a run stopped.
+fn assert_cause(rt: &impl Abort, outcome: Result<Series, RunError>, wanted: RunError) {
+    assert_eq!(rt; outcome.err(), Some(wanted));
+}
+
+#[test]
+fn causes_are_told(rt: HostRuntime) {
+    let refused = [
+        (LOW_AND_BACK, 0, RunError::Workers),
+        (LOW_AND_BACK, 65, RunError::Workers),
+        ("{}", 1, RunError::Config(ConfigError::Missing)),
+    ];
+    for (config, workers, wanted) in refused {
+        let outcome = collect_series(&rt, rt.alloc(), &Open, workers, config.as_bytes());
+        assert_cause(&rt, outcome, wanted);
+    }
+}

@@ -1,5 +1,0 @@
-mod ends;
-mod hosts;
-mod limits;
-mod setup;
-mod workers;
