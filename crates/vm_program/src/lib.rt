@@ -1,8 +1,7 @@
 //! The program `vmmem [--workers N]`, as a call.
 //!
 //! [`vmmem`] runs the guests that a configuration on standard input names, and writes the report to standard output. A program's
-//! `main` calls it, and each program's stored run shows one exit status. [`status`] is the same over any reader and writer, and
-//! [`status_for`] over any words.
+//! `main` calls it. [`status`] is the same over any reader and writer, and [`status_for`] over any words.
 #![tactic(auto)]
 
 mod complaints;

@@ -33,67 +33,87 @@ fn asked(workers: u32, has_flag: bool) -> Option<Request> {
     Some(Request { workers, has_flag })
 }
 
-// Asserts what is asked for.
-fn assert_request(rt: &impl Abort, request: Option<Request>, wanted: Option<Request>) {
+// Asserts what words ask for. Something is said exactly where they are refused.
+fn assert_request(
+    rt: &(impl AllocGlobal + Abort),
+    line: &CommandLine,
+    words: &[&str],
+    wanted: Option<Request>,
+) -> Result<(), Fail> {
+    let texts = texts(rt.alloc(), words)?;
+    let system = with_words(rt.alloc(), words);
+    let request = line.request(&system, texts.as_slice()).ok();
     assert_eq!(rt; request, wanted);
-}
-
-#[test]
-fn words_ask_for_workers_and_a_flag(rt: HostRuntime) -> Result<(), Fail> {
-    let alloc = rt.alloc();
-    let cases: [(CommandLine, &[&str], Option<Request>); 9] = [
-        (PLAIN, &["plain"], asked(1, false)),
-        (PLAIN, &["plain", "--workers", "64"], asked(64, false)),
-        (PLAIN, &["plain", "--svg"], None),
-        (PLAIN, &["plain", "--workers=65"], None),
-        (FLAGGED, &["flagged"], asked(1, false)),
-        (FLAGGED, &["flagged", "--svg"], asked(1, true)),
-        (
-            FLAGGED,
-            &["flagged", "--workers", "2", "--svg"],
-            asked(2, true),
-        ),
-        (FLAGGED, &["flagged", "--svg", "--svg"], None),
-        (FLAGGED, &["flagged", "--help"], None),
-    ];
-    for (line, words, wanted) in cases {
-        let system = with_words(alloc, words);
-        let words = texts(alloc, words)?;
-        let request = line.request(&system, words.as_slice());
-        assert_request(&rt, request.ok(), wanted);
-        assert_has_spoken(&rt, system, wanted.is_none());
-    }
+    assert_has_spoken(rt, system, wanted.is_none());
     Ok(())
 }
 
 #[test]
+fn words_ask_for_workers(rt: HostRuntime) -> Result<(), Fail> {
+    assert_request(&rt, &PLAIN, &["plain"], asked(1, false))?;
+    assert_request(&rt, &PLAIN, &["plain", "--workers", "64"], asked(64, false))?;
+    assert_request(&rt, &PLAIN, &["plain", "--svg"], None)?;
+    assert_request(&rt, &PLAIN, &["plain", "--workers=65"], None)
+}
+
+#[test]
+fn words_ask_for_a_flag(rt: HostRuntime) -> Result<(), Fail> {
+    assert_request(&rt, &FLAGGED, &["flagged"], asked(1, false))?;
+    assert_request(&rt, &FLAGGED, &["flagged", "--svg"], asked(1, true))?;
+    let both = &["flagged", "--workers", "2", "--svg"];
+    assert_request(&rt, &FLAGGED, both, asked(2, true))?;
+    assert_request(&rt, &FLAGGED, &["flagged", "--svg", "--svg"], None)?;
+    assert_request(&rt, &FLAGGED, &["flagged", "--help"], None)
+}
+
+// Asserts the status that a run which stopped ends with, and what is said of it.
+fn assert_told(
+    rt: &(impl AllocGlobal + Abort),
+    line: &CommandLine,
+    error: RunError,
+    status: u8,
+    said: &str,
+) {
+    let system = with_words(rt.alloc(), &[]);
+    assert_status(rt, line.complain(&system, error), status);
+    assert_said(rt, system, said);
+}
+
+#[test]
 fn a_stopped_run_is_told(rt: HostRuntime) {
-    let cases = [
-        (
-            FLAGGED,
-            RunError::Config(ConfigError::Twice),
-            1,
-            "flagged: two guests have one name\n",
-        ),
-        (
-            FLAGGED,
-            RunError::Workers,
-            2,
-            "usage: flagged [--svg] [--workers N] < CONFIGURATION > SERIES\n",
-        ),
-        (FLAGGED, RunError::Read, 3, "flagged: read failed\n"),
-        (FLAGGED, RunError::Write, 3, "flagged: write failed\n"),
-        (FLAGGED, RunError::Memory, 3, "flagged: out of memory\n"),
-        (
-            PLAIN,
-            RunError::Workers,
-            2,
-            "usage: plain [--workers N] < CONFIGURATION > REPORT\n",
-        ),
-    ];
-    for (line, error, status, said) in cases {
-        let system = with_words(rt.alloc(), &[]);
-        assert_status(&rt, line.complain(&system, error), status);
-        assert_said(&rt, system, said);
-    }
+    let twice = RunError::Config(ConfigError::Twice);
+    assert_told(
+        &rt,
+        &FLAGGED,
+        twice,
+        1,
+        "flagged: two guests have one name\n",
+    );
+    assert_told(&rt, &FLAGGED, RunError::Read, 3, "flagged: read failed\n");
+    assert_told(&rt, &FLAGGED, RunError::Write, 3, "flagged: write failed\n");
+    assert_told(
+        &rt,
+        &FLAGGED,
+        RunError::Memory,
+        3,
+        "flagged: out of memory\n",
+    );
+}
+
+#[test]
+fn words_that_are_refused_late_show_the_usage(rt: HostRuntime) {
+    assert_told(
+        &rt,
+        &FLAGGED,
+        RunError::Workers,
+        2,
+        "usage: flagged [--svg] [--workers N] < CONFIGURATION > SERIES\n",
+    );
+    assert_told(
+        &rt,
+        &PLAIN,
+        RunError::Workers,
+        2,
+        "usage: plain [--workers N] < CONFIGURATION > REPORT\n",
+    );
 }

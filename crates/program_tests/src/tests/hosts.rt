@@ -1,7 +1,8 @@
 // A host, and what is told of it.
 use super::setup::{TWO_IN_ORDER, text, with_room};
+use std::alloc::{AllocError, Global};
 use std::process::Abort;
-use std::test::Fail;
+use std::thread::Threads;
 use vm_sim::{Config, Host, Lines, Open, boundary_text, end_text, epoch_text, read_config, run};
 
 // The first byte of a page, where it is shown.
@@ -49,45 +50,74 @@ const STATISTICS: &str =
     "{\"version\":1,\"frames\":100,\"epochs\":1,\"guests\":[{\"name\":\"web\",\"size\":4,\"min\":4,\
 \"trace\":[\"r 1 0 2\"]}]}";
 
-#[test]
-fn texts_tell_of_a_host(rt: HostRuntime) -> Result<(), Fail> {
-    let alloc = rt.alloc();
+// The host of a configuration that can be read.
+fn host_of(rt: &(impl Abort + AllocGlobal), config: &str) -> Host {
     let Config {
         machine,
         domains,
         ..
-    } = read_config(alloc, STATISTICS.as_bytes())?;
+    } = read_config(rt.alloc(), config.as_bytes()).expect(rt, "a configuration");
+    Host::new(rt.alloc(), machine, domains)
+        .ok()
+        .expect(rt, "there is memory")
+}
+
+// These lines.
+fn lines_of(alloc: Global, texts: &[&str]) -> Result<Lines, AllocError> {
     let mut lines = Lines::new(alloc);
-    for line in [
-        "start web",
-        "start web",
-        "dommemstat web",
-        "setmem web 64",
-        "memshares db 1",
-    ] {
+    for line in texts {
         lines.push(line)?;
     }
-    let mut host = Host::new(alloc, machine, domains)
-        .ok()
-        .expect(&rt, "there is memory");
-    let boundary = host.boundary(alloc, &lines).expect(&rt, "there is memory");
-    let before = boundary_text(alloc, 7, &host, &boundary).expect(&rt, "there is memory");
-    host.epoch(&rt, alloc, &Open, 1)
-        .expect(&rt, "there is memory");
-    let after = epoch_text(alloc, &host).expect(&rt, "there is memory");
-    let end = end_text(alloc, &host).expect(&rt, "there is memory");
-    host.close();
-    assert_text(
+    Ok(lines)
+}
+
+// Asserts what is told of a boundary in which these lines are obeyed.
+fn assert_boundary(rt: &(impl Abort + AllocGlobal), host: &mut Host, texts: &[&str], wanted: &str) {
+    let lines = lines_of(rt.alloc(), texts).expect(rt, "there is memory");
+    let boundary = host
+        .boundary(rt.alloc(), &lines)
+        .expect(rt, "there is memory");
+    let told = boundary_text(rt.alloc(), 7, host, &boundary).expect(rt, "there is memory");
+    assert_text(rt, told.as_str(), wanted);
+}
+
+// Asserts what is told of an epoch, and at an end after it.
+fn assert_epoch(
+    rt: &(impl Abort + AllocGlobal + Threads + Sync),
+    host: &mut Host,
+    reads: &str,
+    end: &str,
+) {
+    assert!(rt; host.ready());
+    host.epoch(rt, rt.alloc(), &Open, 1)
+        .expect(rt, "there is memory");
+    let told = epoch_text(rt.alloc(), host).expect(rt, "there is memory");
+    assert_text(rt, told.as_str(), reads);
+    let told = end_text(rt.alloc(), host).expect(rt, "there is memory");
+    assert_text(rt, told.as_str(), end);
+}
+
+#[test]
+fn texts_tell_of_a_host(rt: HostRuntime) {
+    let mut host = host_of(&rt, STATISTICS);
+    assert_boundary(
         &rt,
-        before.as_str(),
+        &mut host,
+        &[
+            "start web",
+            "start web",
+            "dommemstat web",
+            "setmem web 64",
+            "memshares db 1",
+        ],
         "epoch 7\n> start web\nok\n> start web\nerror 2 already running\n> dommemstat web\nactual 16\nrss 16\n\
 > setmem web 64\nerror 7 above maximum\n> memshares db 1\nerror 1 no such domain\nstate high free 96\n",
     );
-    assert_text(&rt, after.as_str(), "web r 1 0 0000\n");
-    assert_text(
+    assert_epoch(
         &rt,
-        end.as_str(),
+        &mut host,
+        "web r 1 0 0000\n",
         "end\nweb target 4 held 4 swapped 0 balloon 0 active 65536 bad 0 done 1\nmachine 100 held 4 free 96 overhead 0\n",
     );
-    Ok(())
+    host.close();
 }

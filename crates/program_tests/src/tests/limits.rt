@@ -23,32 +23,50 @@ fn many_domains(alloc: Global) -> Result<String, AllocError> {
     Ok(config)
 }
 
-// What is told of them.
-fn report_of_many(alloc: Global) -> Result<String, AllocError> {
-    let mut report = String::from_str(alloc, "epoch 0\n")?;
+// What is told of their starts.
+fn tell_starts(report: &mut String) -> Result<(), AllocError> {
     for number in 0..DOMAINS {
         writeln!(report, "> start g{number}\nok")?;
     }
-    report.push_str("state high free 44\n")?;
+    Ok(())
+}
+
+// What is told of their reads.
+fn tell_reads(report: &mut String) -> Result<(), AllocError> {
     for number in 0..DOMAINS {
         writeln!(report, "g{number} r 0 0 {number:02x}")?;
     }
-    report.push_str("end\n")?;
+    Ok(())
+}
+
+// What is told of them at the end.
+fn tell_ends(report: &mut String) -> Result<(), AllocError> {
     for number in 0..DOMAINS {
         writeln!(
             report,
             "g{number} target 1 held 1 swapped 0 balloon 0 active 65536 bad 0 done 2"
         )?;
     }
-    report.push_str("machine 300 held 256 free 44 overhead 0\n")?;
-    Ok(report)
+    Ok(())
+}
+
+// All that is told.
+fn tell_all(report: &mut String) -> Result<(), AllocError> {
+    report.push_str("epoch 0\n")?;
+    tell_starts(report)?;
+    report.push_str("state high free 44\n")?;
+    tell_reads(report)?;
+    report.push_str("end\n")?;
+    tell_ends(report)?;
+    report.push_str("machine 300 held 256 free 44 overhead 0\n")
 }
 
 #[test]
 fn all_256_domains_run(rt: HostRuntime) -> Result<(), Fail> {
     let alloc = rt.alloc();
     let config = many_domains(alloc)?;
-    let report = report_of_many(alloc)?;
+    let mut report = String::new(alloc);
+    tell_all(&mut report)?;
     let mut writer = with_room(alloc, 100_000);
     let mut reader = text(config.as_bytes());
     let outcome = run(&rt, alloc, &Open, 64, &mut reader, &mut writer);

@@ -2,7 +2,7 @@
 use super::setup::{
     FIRST_READ, FIRST_READ_REPORT, FIVE_GUESTS, FIVE_GUESTS_REPORT, LOW_AND_BACK,
     LOW_AND_BACK_REPORT, OVERHEAD_ADMITTED, OVERHEAD_ADMITTED_REPORT, assert_bytes, assert_fault,
-    assert_length, assert_reader_failed, fault_of, text, with_room,
+    assert_fault_in, assert_length, assert_reader_failed, fault_of, text, with_room,
 };
 use std::process::Abort;
 use std::sync::atomic::{AtomicU64, Ordering};
@@ -20,12 +20,8 @@ fn assert_report(
     let mut writer = with_room(rt.alloc(), 10_000);
     let mut reader = text(input.as_bytes());
     let outcome = run(rt, rt.alloc(), &Open, workers, &mut reader, &mut writer);
-    assert_eq!(rt; fault_of(outcome), None, "{workers} {input}");
-    assert_eq!(rt;
-        writer.held.as_slice(),
-        report.as_bytes(),
-        "{workers} {input}"
-    );
+    assert_fault_in(rt, workers as usize, fault_of(outcome), None);
+    assert_bytes(rt, writer.held.as_slice(), report.as_bytes());
 }
 
 #[test]
