@@ -99,6 +99,33 @@ fn draws_that_are_due(rt: HostRuntime) -> Result<(), Fail> {
     Ok(())
 }
 
+// The draws of a period may be made after words that come later were used by others. The draws of these words are 2, 1, 2, 2 and 2: both
+// of the second period give page 2.
+#[test]
+fn words_of_others(rt: HostRuntime) -> Result<(), Fail> {
+    let mut words = Words::new(42, 54);
+    let mut sampler = Sampler::new(rt.alloc(), 2, 1, 4, &mut words)?;
+    idle_steps(&mut sampler, 1, &mut words);
+    assert_eq!(rt; words.pick(4), 2);
+    touched_step(&mut sampler, 2, &mut words);
+    assert_active(&rt, &sampler, 58368);
+    Ok(())
+}
+
+// A guest that was idle for long and is touched is seen by the fast average: at once as it would be then, and so at the period's end.
+#[test]
+fn fast_rise(rt: HostRuntime) -> Result<(), Fail> {
+    let mut words = Words::new(0, 0);
+    let mut sampler = Sampler::new(rt.alloc(), 4, 1, 1, &mut words)?;
+    idle_steps(&mut sampler, 1000, &mut words);
+    assert_active(&rt, &sampler, 0);
+    sampler.touch(0);
+    assert_active(&rt, &sampler, 32768);
+    sampler.stepped(&mut words);
+    assert_active(&rt, &sampler, 32768);
+    Ok(())
+}
+
 // A guest that touches nothing is seen as less and less active.
 #[test]
 fn slow_decay(rt: HostRuntime) -> Result<(), Fail> {
