@@ -6,5 +6,6 @@ pub mod RowLemmas
 pub mod TakeLemmas
 pub mod RoomLemmas
 pub mod PlanningLemmas
+pub mod RestLemmas
 pub mod CarryLemmas
 pub mod EnoughLemmas

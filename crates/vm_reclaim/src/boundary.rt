@@ -19,6 +19,7 @@ ghost use Rattle.vm_tax.specs.Ratio.{hundredths};
 
 use crate::policy::Numbers;
 use crate::reclaim::waits_in;
+use crate::rest::{is_at_rest, nothing};
 use crate::rows::rows_of;
 use crate::told::{Blocked, BoundaryPlan, Paged, Paging};
 use std::alloc::{AllocError, Global};
@@ -179,8 +180,8 @@ fn blocked_of(alloc: Global, state: State, rows: &[PlanRow]) -> Result<Blocked, 
 /// more are free than the next lower threshold and the guest outbids the others, in Low never. In Low guests wait that hold more than
 /// their targets.
 ///
-/// The cost is a few steps for each guest, and a logarithm of their number for each page. The only error is a want of memory, where
-/// there is a guest, running or not.
+/// The cost is a few steps for each guest, and a logarithm of their number for each page. In High, where no guest that wants to grow may,
+/// guests are at most asked whether they want to. The only error is a want of memory, where there is a guest, running or not.
 pub fn plan_boundary(
     alloc: Global,
     numbers: &Numbers,
@@ -207,6 +208,9 @@ pub fn plan_boundary(
         IfOk result (λ plan. IsGrantList state numbers.now.thresholds (hundredths numbers.now.tax) guests plan.granted) }
     ensures memory { IfErr result (λ _. 0 < length pool.now.guests) }
 {
+    if is_at_rest(numbers, pool, state) {
+        return Ok(nothing(alloc));
+    }
     let mut rows = rows_of(alloc, pool)?;
     let revoked = plan_falls(alloc, numbers, pool, state, &mut rows)?;
     let paged = page_rows(alloc, state, numbers.page_rate, &mut rows)?;

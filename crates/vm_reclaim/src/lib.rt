@@ -13,6 +13,7 @@ mod boundary;
 mod law;
 mod policy;
 mod reclaim;
+mod rest;
 mod room;
 mod rows;
 mod told;

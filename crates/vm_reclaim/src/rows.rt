@@ -10,7 +10,7 @@ use vm_plan::PlanRow;
 use vm_pool::Pool;
 
 // The row of the guest at a position: where none runs, nothing can be revoked, and nothing is wanted.
-fn row_at(pool: &Pool, position: usize) -> PlanRow
+pub(crate) fn row_at(pool: &Pool, position: usize) -> PlanRow
     ensures row { plan_row result ≡ row_at (guest_at pool.now position) }
     ensures held { result.target ≤ result.held }
     ensures good { IfSome (guest_at pool.now position) IsGood }

@@ -15,8 +15,34 @@ use Rattle.vm_reclaim.specs.Rows.{plan_pool_of, rows_of}
 use Rattle.vm_reclaim.proofs.CanLemmas.{can_revoke}
 use Rattle.vm_reclaim.proofs.CarryLemmas.{can-settle, settled-is}
 use Rattle.vm_reclaim.proofs.PlanningLemmas.{blocked-are, given-within, held-fallen, paging-told, pool-planned}
+use Rattle.vm_reclaim.proofs.RestLemmas.{can-do-nothing, grants-at-rest, plan-at-rest}
 use Rattle.vm_reclaim.proofs.RowLemmas.{can_grant}
 use Rattle.vm_reclaim.proofs.boundary.plan_boundary.Goals as goal
+
+-- ---- nothing is to be done
+
+pub returns-then-is_at_rest-clause-plan : goal.returns-then-is_at_rest-clause-plan
+returns-then-is_at_rest-clause-plan c =
+    c.nothing.ensures ∙ plan-at-rest (policy_in c.args.numbers.now) c.args.state c.args.pool.now (c.is_at_rest.ensures c.if-is_at_rest.true)
+
+pub returns-then-is_at_rest-clause-can : goal.returns-then-is_at_rest-clause-can
+returns-then-is_at_rest-clause-can c = can-do-nothing c.args.pool.now c.nothing.result c.nothing.ensures
+
+pub returns-then-is_at_rest-clause-done : goal.returns-then-is_at_rest-clause-done
+returns-then-is_at_rest-clause-done c =
+    ap (λ (plan : BoundaryPlan). carried_out plan c.args.pool.now) (returns-then-is_at_rest-clause-plan c)
+    ∙ settled-is (policy_in c.args.numbers.now) c.args.state c.args.pool.now
+
+pub returns-then-is_at_rest-clause-granted_fairly : goal.returns-then-is_at_rest-clause-granted_fairly
+returns-then-is_at_rest-clause-granted_fairly c =
+    let pool = c.args.pool.now in
+    let state = c.args.state in
+    let policy = policy_in c.args.numbers.now in
+    let rest = c.is_at_rest.ensures c.if-is_at_rest.true in
+    subst (λ (plan : BoundaryPlan). IsGrantList state policy.thresholds policy.tax (plan_pool_of (pool_reclaimed policy state pool)) plan.granted) (sym c.nothing.ensures)
+    (grants-at-rest policy state pool rest)
+
+-- ---- the rest
 
 pub free_after-requires : goal.free_after-requires
 free_after-requires c =

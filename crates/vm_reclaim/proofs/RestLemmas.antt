@@ -1,0 +1,124 @@
+-- A boundary at which nothing is taken, and nothing can be granted.
+use Rattle.std.proofs.Common.{◌≡◌, ◌∙◌, ℕ, zero, suc, ◌+◌, ◌-◌, ◌||◌, ◌&&◌, nat_lt, Bool, true, false, List, [], ◌∷◌, Option, Some, None, map, if◌then◌else◌, sym, refl, subst, ap, arith}
+use Rattle.std.proofs.lemmas.Bool.{false≢true, lt-ltb}
+use Rattle.std.specs.List.{list_any}
+use Rattle.std.specs.Option.{option_map, option_map_or}
+use Rattle.vm_plan.specs.declared.state.State.{State}
+use Rattle.vm_plan.specs.declared.state.State.TheVariants.{High}
+use Rattle.vm_plan.specs.declared.thresholds.Thresholds.{Thresholds}
+use Rattle.vm_plan.specs.Grants.{Pool, CanGrow, IsGrantList, granted, grant_list, grants_up_to, total_demand}
+use Rattle.vm_plan.specs.Revocation.{revocation_list}
+use Rattle.vm_plan.proofs.Places.{no_grants}
+use Rattle.vm_plan.specs.Row.{Row, ratio_with, wanting_ratios, wants_to_grow}
+use Rattle.vm_pool.specs.Guests.{Guests}
+use Rattle.vm_pool.specs.Pool.{PoolView}
+use Rattle.vm_tax.specs.Offers.{Offer, best_offer, greatest_position, one_further}
+use Rattle.vm_tax.specs.Ratio.{Tax, is_less}
+use Rattle.vm_reclaim.specs.Boundary.{plan_of, pool_reclaimed, CanCarryOut}
+use Rattle.vm_reclaim.specs.declared.told.BoundaryPlan.{BoundaryPlan}
+use Rattle.vm_reclaim.specs.Planning.{can_grow, paged_row, row_counts, IsAtRest}
+use Rattle.vm_reclaim.specs.Policy.{Policy}
+use Rattle.vm_reclaim.specs.Reclaim.{counts_of, paged_from, pool_revoked, revocations_in, wanted_in}
+use Rattle.vm_reclaim.specs.Rows.{plan_pool_of, rows_of}
+use Rattle.vm_reclaim.proofs.PlanningLemmas.{blocked-are, none-waits, pool-planned}
+
+-- ---- nothing is taken
+
+pub none-revoked : (policy : Policy) (pool : PoolView) → revocations_in policy High pool ≡ []
+unfolding revocation_list
+none-revoked policy pool = refl
+
+pub rows-stay : (policy : Policy) (pool : PoolView) → rows_of pool.guests ≡ rows_of (pool_revoked policy High pool).guests
+unfolding revocation_list
+rows-stay policy pool = refl
+
+pub none-paged : (position page_rate : ℕ) (guests : Guests) → paged_from position (counts_of High page_rate guests) ≡ []
+none-paged position page_rate [] = refl
+none-paged position page_rate (guest ∷ guests) = none-paged (position + 1) page_rate guests
+
+none-counted : (position page_rate : ℕ) (rows : List Row) → paged_from position (row_counts High page_rate rows) ≡ []
+none-counted position page_rate [] = refl
+none-counted position page_rate (row ∷ rows) = none-counted (position + 1) page_rate rows
+
+row-kept : (page_rate : ℕ) (row : Row) → paged_row High page_rate row ≡ row
+row-kept page_rate row = let all : row.held - 0 ≡ row.held = omega arith in λ i. record row { held = all i }
+
+rows-kept : (page_rate : ℕ) (rows : List Row) → map (paged_row High page_rate) rows ≡ rows
+rows-kept page_rate [] = refl
+rows-kept page_rate (row ∷ rows) = λ i. row-kept page_rate row i ∷ rows-kept page_rate rows i
+
+-- what grants are planned from is as it was
+pub pool-kept : (policy : Policy) (pool : PoolView) → plan_pool_of pool ≡ plan_pool_of (pool_reclaimed policy High pool)
+pool-kept policy pool =
+    let rows = rows_of pool.guests in
+    (λ i. record { free = pool.free; rows = sym (rows-kept policy.page_rate rows) i })
+    ∙ pool-planned policy High pool pool.free [] rows (map (paged_row High policy.page_rate) rows) (rows-stay policy pool)
+    (sym (none-counted 0 policy.page_rate rows)) refl (omega arith)
+
+-- ---- nothing can be granted
+
+pub none-grow : (t : Thresholds) (pool : PoolView) → can_grow t pool ≡ false → ¬ CanGrow High t (plan_pool_of pool)
+none-grow t pool none can =
+    false≢true (sym none ∙ (ap (λ (lets : Bool). lets && list_any wants_to_grow (rows_of pool.guests)) (lt-ltb t.soft pool.free can.lets) ∙ can.wants))
+
+none-offered : (tax : Tax) (rows : List Row) → list_any wants_to_grow rows ≡ false → best_offer is_less (wanting_ratios tax rows) ≡ None
+unfolding best_offer
+none-offered tax [] none = refl
+none-offered tax (row ∷ rows) none = go (wants_to_grow row) none (none-offered tax rows)
+  where
+    go : (wants : Bool) → (wants || list_any wants_to_grow rows) ≡ false
+        → (list_any wants_to_grow rows ≡ false → best_offer is_less (wanting_ratios tax rows) ≡ None)
+        → best_offer is_less ((if wants then Some (ratio_with tax row row.target) else None) ∷ wanting_ratios tax rows) ≡ None
+    go true is later = absurd (false≢true (sym is))
+    go false is later = ap (option_map one_further) (later is)
+
+no-grants : (n : ℕ) (t : Thresholds) (tax : Tax) (pool : Pool) → (nat_lt t.soft pool.free && list_any wants_to_grow pool.rows) ≡ false → grants_up_to n High t tax pool ≡ []
+unfolding grants_up_to
+no-grants zero t tax pool none = refl
+no-grants (suc n) t tax pool none = go (nat_lt t.soft pool.free) (greatest_position (wanting_ratios tax pool.rows)) none
+    (λ wants. ap (option_map (λ (offer : Offer). offer.position)) (none-offered tax pool.rows wants))
+  where
+    go : (lets : Bool) (first : Option ℕ) → (lets && list_any wants_to_grow pool.rows) ≡ false → (list_any wants_to_grow pool.rows ≡ false → first ≡ None)
+        → option_map_or (λ position. position ∷ grants_up_to n High t tax (granted pool position))
+        (option_map_or (λ (position : ℕ). if lets then Some position else None) first None) [] ≡ []
+    go true first is never = ap (λ (first : Option ℕ). option_map_or (λ position. position ∷ grants_up_to n High t tax (granted pool position))
+        (option_map_or (λ (position : ℕ). if true then Some position else None) first None) []) (never is)
+    go false None is never = refl
+    go false (Some position) is never = refl
+
+pub none-granted : (policy : Policy) (pool : PoolView) → can_grow policy.thresholds pool ≡ false
+    → grant_list High policy.thresholds policy.tax (plan_pool_of (pool_reclaimed policy High pool)) ≡ []
+none-granted policy pool none =
+    ap (grant_list High policy.thresholds policy.tax) (sym (pool-kept policy pool))
+    ∙ no-grants (total_demand (rows_of pool.guests)) policy.thresholds policy.tax (plan_pool_of pool) none
+
+-- ---- the plan
+
+abbrev pub no_plan : BoundaryPlan
+no_plan = record { revoked = []; paged = []; granted = []; blocked = [] }
+
+plan-is-nothing : (policy : Policy) (pool : PoolView) → can_grow policy.thresholds pool ≡ false → no_plan ≡ plan_of policy High pool
+plan-is-nothing policy pool none =
+    let reclaimed = pool_reclaimed policy High pool in
+    let revoked = none-revoked policy pool in
+    let paged = none-paged 0 policy.page_rate (pool_revoked policy High pool).guests in
+    let granted = none-granted policy pool none in
+    let blocked = sym (none-waits 0 (rows_of reclaimed.guests)) ∙ blocked-are policy High reclaimed in
+    λ i. record { revoked = sym revoked i; paged = sym paged i; granted = sym granted i; blocked = blocked i }
+
+pub plan-at-rest : (policy : Policy) (state : State) (pool : PoolView) → IsAtRest policy.thresholds state pool → no_plan ≡ plan_of policy state pool
+plan-at-rest policy state pool rest = subst (λ (s : State). no_plan ≡ plan_of policy s pool) (sym rest.0) (plan-is-nothing policy pool rest.1)
+
+pub grants-at-rest : (policy : Policy) (state : State) (pool : PoolView) → IsAtRest policy.thresholds state pool
+    → IsGrantList state policy.thresholds policy.tax (plan_pool_of (pool_reclaimed policy state pool)) []
+grants-at-rest policy state pool rest =
+    let t = policy.thresholds in
+    subst (λ (s : State). IsGrantList s t policy.tax (plan_pool_of (pool_reclaimed policy s pool)) []) (sym rest.0)
+    (subst (λ (p : Pool). IsGrantList High t policy.tax p []) (pool-kept policy pool)
+    (no_grants High t policy.tax (plan_pool_of pool) (none-grow t pool rest.1)))
+
+pub none-wanted : (policy : Policy) (state : State) (pool : PoolView) → IsAtRest policy.thresholds state pool → wanted_in policy state pool ≡ 0
+none-wanted policy state pool rest = subst (λ (s : State). wanted_in policy s pool ≡ 0) (sym rest.0) refl
+
+pub can-do-nothing : (pool : PoolView) (plan : BoundaryPlan) → plan ≡ no_plan → CanCarryOut pool plan
+can-do-nothing pool plan is = subst (λ (plan : BoundaryPlan). CanCarryOut pool plan) (sym is) (record { can_fall = tt; can_give_up = tt; can_rise = tt })

@@ -1,0 +1,60 @@
+// Whether a boundary leaves its guests what they have, which is told without a row for each of them.
+ghost use Rattle.std.specs.Prelude.{◌≡◌, [], IsTrue};
+ghost use Rattle.std.specs.List.{list_any};
+ghost use Rattle.vm_plan.specs.Row.{wants_to_grow};
+ghost use Rattle.vm_pool.specs.Pool.{guest_at};
+ghost use Rattle.vm_reclaim.specs.Planning.{can_grow, IsAtRest};
+ghost use Rattle.vm_reclaim.specs.Rows.{row_at, rows_of};
+
+use crate::policy::Numbers;
+use crate::rows::row_at;
+use crate::told::{Blocked, BoundaryPlan, Paging};
+use std::alloc::Global;
+use vm_plan::{Plan, State};
+use vm_pool::Pool;
+
+// Whether the guest at a position wants to grow, and may.
+fn wants_to_grow(pool: &Pool, position: usize) -> bool
+    ensures { result ≡ wants_to_grow (row_at (guest_at pool.now position)) }
+{
+    let row = row_at(pool, position);
+    row.demand > 0 && row.target < row.cap
+}
+
+// Whether some guest does.
+fn some_wants_to_grow(pool: &Pool) -> bool
+    ensures { result ≡ list_any wants_to_grow (rows_of pool.now.guests) }
+{
+    for position in 0..pool.len() {
+        if wants_to_grow(pool, position) {
+            return true;
+        }
+    }
+    false
+}
+
+// Whether, in High, a guest that wants to grow may. The guests are looked at only where enough frames are free.
+fn can_grow(numbers: &Numbers, pool: &Pool) -> bool
+    ensures { result ≡ can_grow numbers.now.thresholds pool.now }
+{
+    pool.free() > numbers.thresholds.soft && some_wants_to_grow(pool)
+}
+
+// Whether nothing is taken and nothing is granted: in High none is taken.
+pub(crate) fn is_at_rest(numbers: &Numbers, pool: &Pool, state: State) -> bool
+    ensures { IsTrue result → IsAtRest numbers.now.thresholds state pool.now }
+{
+    state == State::High && !can_grow(numbers, pool)
+}
+
+// A plan that does nothing.
+pub(crate) fn nothing(alloc: Global) -> BoundaryPlan
+    ensures { result ≡ record { revoked = []; paged = []; granted = []; blocked = [] } }
+{
+    BoundaryPlan {
+        revoked: Plan::new(alloc),
+        paged: Paging::new(Vec::new(alloc)),
+        granted: Plan::new(alloc),
+        blocked: Blocked::new(Vec::new(alloc)),
+    }
+}
