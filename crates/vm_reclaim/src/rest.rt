@@ -1,5 +1,5 @@
 // Whether a boundary leaves its guests what they have, which is told without a row for each of them.
-ghost use Rattle.std.specs.Prelude.{◌≡◌, [], IsTrue};
+ghost use Rattle.std.specs.Prelude.{◌≡◌, ◌↔◌, [], IsTrue};
 ghost use Rattle.std.specs.List.{list_any};
 ghost use Rattle.vm_plan.specs.Row.{wants_to_grow};
 ghost use Rattle.vm_pool.specs.Pool.{guest_at};
@@ -42,7 +42,7 @@ fn can_grow(numbers: &Numbers, pool: &Pool) -> bool
 
 // Whether nothing is taken and nothing is granted: in High none is taken.
 pub(crate) fn is_at_rest(numbers: &Numbers, pool: &Pool, state: State) -> bool
-    ensures { IsTrue result → IsAtRest numbers.now.thresholds state pool.now }
+    ensures { IsTrue result ↔ IsAtRest numbers.now.thresholds state pool.now }
 {
     state == State::High && !can_grow(numbers, pool)
 }

@@ -23,7 +23,7 @@ use Rattle.vm_reclaim.proofs.boundary.plan_boundary.Goals as goal
 
 pub returns-then-is_at_rest-clause-plan : goal.returns-then-is_at_rest-clause-plan
 returns-then-is_at_rest-clause-plan c =
-    c.nothing.ensures ∙ plan-at-rest (policy_in c.args.numbers.now) c.args.state c.args.pool.now (c.is_at_rest.ensures c.if-is_at_rest.true)
+    c.nothing.ensures ∙ plan-at-rest (policy_in c.args.numbers.now) c.args.state c.args.pool.now (c.is_at_rest.ensures.0 c.if-is_at_rest.true)
 
 pub returns-then-is_at_rest-clause-can : goal.returns-then-is_at_rest-clause-can
 returns-then-is_at_rest-clause-can c = can-do-nothing c.args.pool.now c.nothing.result c.nothing.ensures
@@ -38,7 +38,7 @@ returns-then-is_at_rest-clause-granted_fairly c =
     let pool = c.args.pool.now in
     let state = c.args.state in
     let policy = policy_in c.args.numbers.now in
-    let rest = c.is_at_rest.ensures c.if-is_at_rest.true in
+    let rest = c.is_at_rest.ensures.0 c.if-is_at_rest.true in
     subst (λ (plan : BoundaryPlan). IsGrantList state policy.thresholds policy.tax (plan_pool_of (pool_reclaimed policy state pool)) plan.granted) (sym c.nothing.ensures)
     (grants-at-rest policy state pool rest)
 
