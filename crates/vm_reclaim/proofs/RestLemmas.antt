@@ -16,11 +16,11 @@ use Rattle.vm_tax.specs.Offers.{Offer, best_offer, greatest_position, one_furthe
 use Rattle.vm_tax.specs.Ratio.{Tax, is_less}
 use Rattle.vm_reclaim.specs.Boundary.{plan_of, pool_reclaimed, CanCarryOut}
 use Rattle.vm_reclaim.specs.declared.told.BoundaryPlan.{BoundaryPlan}
-use Rattle.vm_reclaim.specs.Planning.{can_grow, paged_row, row_counts, IsAtRest}
+use Rattle.vm_reclaim.specs.Planning.{can_grow, paged_row, IsAtRest}
 use Rattle.vm_reclaim.specs.Policy.{Policy}
 use Rattle.vm_reclaim.specs.Reclaim.{counts_of, paged_from, pool_revoked, revocations_in, wanted_in}
 use Rattle.vm_reclaim.specs.Rows.{plan_pool_of, rows_of}
-use Rattle.vm_reclaim.proofs.PlanningLemmas.{blocked-are, none-waits, pool-planned}
+use Rattle.vm_reclaim.proofs.PlanningLemmas.{blocked-are, counts-are, none-waits, pool-planned}
 
 -- ---- nothing is taken
 
@@ -36,10 +36,6 @@ pub none-paged : (position page_rate : ℕ) (guests : Guests) → paged_from pos
 none-paged position page_rate [] = refl
 none-paged position page_rate (guest ∷ guests) = none-paged (position + 1) page_rate guests
 
-none-counted : (position page_rate : ℕ) (rows : List Row) → paged_from position (row_counts High page_rate rows) ≡ []
-none-counted position page_rate [] = refl
-none-counted position page_rate (row ∷ rows) = none-counted (position + 1) page_rate rows
-
 row-kept : (page_rate : ℕ) (row : Row) → paged_row High page_rate row ≡ row
 row-kept page_rate row = let all : row.held - 0 ≡ row.held = omega arith in λ i. record row { held = all i }
 
@@ -53,7 +49,7 @@ pool-kept policy pool =
     let rows = rows_of pool.guests in
     (λ i. record { free = pool.free; rows = sym (rows-kept policy.page_rate rows) i })
     ∙ pool-planned policy High pool pool.free [] rows (map (paged_row High policy.page_rate) rows) (rows-stay policy pool)
-    (sym (none-counted 0 policy.page_rate rows)) refl (omega arith)
+    (sym (ap (paged_from 0) (counts-are High policy.page_rate pool.guests) ∙ none-paged 0 policy.page_rate pool.guests)) refl (omega arith)
 
 -- ---- nothing can be granted
 
