@@ -93,8 +93,9 @@ fn outbids(tax: u32, rows: &[PlanRow], winners: &Winners, position: u32) -> bool
     cmp_price(&grown, &rival.price_with(tax, rival.target)).is_ge()
 }
 
-/// Whether enough frames are free for guests to grow.
-fn lets_grow(state: State, free: u32, thresholds: &Thresholds) -> bool
+/// Whether enough frames are free for guests to grow: more than the next lower threshold of the state, in Low never
+/// (Waldspurger, OSDI 2002, section 6.3).
+pub fn lets_grow(state: State, free: u32, thresholds: &Thresholds) -> bool
     ensures { IsTrue result ↔ LetsGrow state thresholds.now free }
 {
     match state {

@@ -18,7 +18,7 @@ mod stretch;
 mod thresholds;
 mod tracking;
 
-pub use grants::grant;
+pub use grants::{grant, lets_grow};
 pub use laws::{law_grant_list, law_revocation_list, law_scales};
 pub use moves::Moves;
 pub use paging::{is_blocked, page_count};

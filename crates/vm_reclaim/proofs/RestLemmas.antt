@@ -1,6 +1,6 @@
 -- A boundary at which nothing is taken, and nothing can be granted.
 use Rattle.std.proofs.Common.{◌≡◌, ◌∙◌, ℕ, zero, suc, ◌+◌, ◌-◌, ◌||◌, ◌&&◌, nat_lt, Bool, true, false, List, [], ◌∷◌, Option, Some, None, map, if◌then◌else◌, sym, refl, subst, ap, arith}
-use Rattle.std.proofs.lemmas.Bool.{false≢true, lt-ltb}
+use Rattle.std.proofs.lemmas.Bool.{false≢true, ltb-true}
 use Rattle.std.specs.List.{list_any}
 use Rattle.std.specs.Option.{option_map, option_map_or}
 use Rattle.vm_plan.specs.declared.state.State.{State}
@@ -16,23 +16,23 @@ use Rattle.vm_tax.specs.Offers.{Offer, best_offer, greatest_position, one_furthe
 use Rattle.vm_tax.specs.Ratio.{Tax, is_less}
 use Rattle.vm_reclaim.specs.Boundary.{plan_of, pool_reclaimed, CanCarryOut}
 use Rattle.vm_reclaim.specs.declared.told.BoundaryPlan.{BoundaryPlan}
-use Rattle.vm_reclaim.specs.Planning.{can_grow, paged_row, IsAtRest}
+use Rattle.vm_reclaim.specs.Planning.{paged_row, IsAtRest}
 use Rattle.vm_reclaim.specs.Policy.{Policy}
-use Rattle.vm_reclaim.specs.Reclaim.{counts_of, paged_from, pool_revoked, revocations_in, wanted_in}
+use Rattle.vm_reclaim.specs.Reclaim.{counts_of, paged_from, pool_revoked, revocations_in}
 use Rattle.vm_reclaim.specs.Rows.{plan_pool_of, rows_of}
 use Rattle.vm_reclaim.proofs.PlanningLemmas.{blocked-are, counts-are, none-waits, pool-planned}
 
 -- ---- nothing is taken
 
-pub none-revoked : (policy : Policy) (pool : PoolView) → revocations_in policy High pool ≡ []
+none-revoked : (policy : Policy) (pool : PoolView) → revocations_in policy High pool ≡ []
 unfolding revocation_list
 none-revoked policy pool = refl
 
-pub rows-stay : (policy : Policy) (pool : PoolView) → rows_of pool.guests ≡ rows_of (pool_revoked policy High pool).guests
+rows-stay : (policy : Policy) (pool : PoolView) → rows_of pool.guests ≡ rows_of (pool_revoked policy High pool).guests
 unfolding revocation_list
 rows-stay policy pool = refl
 
-pub none-paged : (position page_rate : ℕ) (guests : Guests) → paged_from position (counts_of High page_rate guests) ≡ []
+none-paged : (position page_rate : ℕ) (guests : Guests) → paged_from position (counts_of High page_rate guests) ≡ []
 none-paged position page_rate [] = refl
 none-paged position page_rate (guest ∷ guests) = none-paged (position + 1) page_rate guests
 
@@ -44,7 +44,7 @@ rows-kept page_rate [] = refl
 rows-kept page_rate (row ∷ rows) = λ i. row-kept page_rate row i ∷ rows-kept page_rate rows i
 
 -- what grants are planned from is as it was
-pub pool-kept : (policy : Policy) (pool : PoolView) → plan_pool_of pool ≡ plan_pool_of (pool_reclaimed policy High pool)
+pool-kept : (policy : Policy) (pool : PoolView) → plan_pool_of pool ≡ plan_pool_of (pool_reclaimed policy High pool)
 pool-kept policy pool =
     let rows = rows_of pool.guests in
     (λ i. record { free = pool.free; rows = sym (rows-kept policy.page_rate rows) i })
@@ -53,9 +53,13 @@ pool-kept policy pool =
 
 -- ---- nothing can be granted
 
-pub none-grow : (t : Thresholds) (pool : PoolView) → can_grow t pool ≡ false → ¬ CanGrow High t (plan_pool_of pool)
-none-grow t pool none can =
-    false≢true (sym none ∙ (ap (λ (lets : Bool). lets && list_any wants_to_grow (rows_of pool.guests)) (lt-ltb t.soft pool.free can.lets) ∙ can.wants))
+none-grow : (t : Thresholds) (pool : Pool) → ¬ CanGrow High t pool → (nat_lt t.soft pool.free && list_any wants_to_grow pool.rows) ≡ false
+none-grow t pool none = go (nat_lt t.soft pool.free) (list_any wants_to_grow pool.rows) refl refl
+  where
+    go : (lets wants : Bool) → nat_lt t.soft pool.free ≡ lets → list_any wants_to_grow pool.rows ≡ wants → (lets && wants) ≡ false
+    go true true free some = absurd (none (record { lets = ltb-true t.soft pool.free free; wants = some }))
+    go true false free some = refl
+    go false wants free some = refl
 
 none-offered : (tax : Tax) (rows : List Row) → list_any wants_to_grow rows ≡ false → best_offer is_less (wanting_ratios tax rows) ≡ None
 unfolding best_offer
@@ -82,18 +86,18 @@ no-grants (suc n) t tax pool none = go (nat_lt t.soft pool.free) (greatest_posit
     go false None is never = refl
     go false (Some position) is never = refl
 
-pub none-granted : (policy : Policy) (pool : PoolView) → can_grow policy.thresholds pool ≡ false
+none-granted : (policy : Policy) (pool : PoolView) → ¬ CanGrow High policy.thresholds (plan_pool_of pool)
     → grant_list High policy.thresholds policy.tax (plan_pool_of (pool_reclaimed policy High pool)) ≡ []
 none-granted policy pool none =
     ap (grant_list High policy.thresholds policy.tax) (sym (pool-kept policy pool))
-    ∙ no-grants (total_demand (rows_of pool.guests)) policy.thresholds policy.tax (plan_pool_of pool) none
+    ∙ no-grants (total_demand (rows_of pool.guests)) policy.thresholds policy.tax (plan_pool_of pool) (none-grow policy.thresholds (plan_pool_of pool) none)
 
 -- ---- the plan
 
 abbrev pub no_plan : BoundaryPlan
 no_plan = record { revoked = []; paged = []; granted = []; blocked = [] }
 
-plan-is-nothing : (policy : Policy) (pool : PoolView) → can_grow policy.thresholds pool ≡ false → no_plan ≡ plan_of policy High pool
+plan-is-nothing : (policy : Policy) (pool : PoolView) → ¬ CanGrow High policy.thresholds (plan_pool_of pool) → no_plan ≡ plan_of policy High pool
 plan-is-nothing policy pool none =
     let reclaimed = pool_reclaimed policy High pool in
     let revoked = none-revoked policy pool in
@@ -111,10 +115,7 @@ grants-at-rest policy state pool rest =
     let t = policy.thresholds in
     subst (λ (s : State). IsGrantList s t policy.tax (plan_pool_of (pool_reclaimed policy s pool)) []) (sym rest.0)
     (subst (λ (p : Pool). IsGrantList High t policy.tax p []) (pool-kept policy pool)
-    (no_grants High t policy.tax (plan_pool_of pool) (none-grow t pool rest.1)))
-
-pub none-wanted : (policy : Policy) (state : State) (pool : PoolView) → IsAtRest policy.thresholds state pool → wanted_in policy state pool ≡ 0
-none-wanted policy state pool rest = subst (λ (s : State). wanted_in policy s pool ≡ 0) (sym rest.0) refl
+    (no_grants High t policy.tax (plan_pool_of pool) rest.1))
 
 pub can-do-nothing : (pool : PoolView) (plan : BoundaryPlan) → plan ≡ no_plan → CanCarryOut pool plan
 can-do-nothing pool plan is = subst (λ (plan : BoundaryPlan). CanCarryOut pool plan) (sym is) (record { can_fall = tt; can_give_up = tt; can_rise = tt })

@@ -1,15 +1,15 @@
 -- A boundary is planned by rows: for private contracts alone.
-use Rattle.std.specs.List.{list_any}
-use Rattle.std.specs.Prelude.{◌≡◌, ℕ, zero, suc, ◌+◌, ◌-◌, ◌&&◌, ⊤, Bool, false, List, [], ◌∷◌, map, nat_lt, if◌then◌else◌}
+use Rattle.std.specs.Prelude.{◌≡◌, ℕ, zero, suc, ◌+◌, ◌-◌, ◌&&◌, ⊤, Bool, List, [], ◌∷◌, map, nat_lt, if◌then◌else◌}
 use Rattle.vm_plan.specs.declared.state.State.{State}
 use Rattle.vm_plan.specs.declared.state.State.TheVariants.{High}
 use Rattle.vm_plan.specs.declared.thresholds.Thresholds.{Thresholds}
+use Rattle.vm_plan.specs.Grants.{CanGrow}
 use Rattle.vm_plan.specs.Paging.{page_count_of}
 use Rattle.vm_plan.specs.Revocation.{IsRevocable, revoked_row}
-use Rattle.vm_plan.specs.Row.{Row, change_at, wants_to_grow}
+use Rattle.vm_plan.specs.Row.{Row, change_at}
 use Rattle.vm_pool.specs.Pool.{PoolView}
 use Rattle.vm_reclaim.specs.declared.told.Paged.{Paged}
-use Rattle.vm_reclaim.specs.Rows.{rows_of}
+use Rattle.vm_reclaim.specs.Rows.{plan_pool_of}
 
 -- there is a guest above its minimum for each of these, one after the other
 abbrev pub CanLower : List Row → List ℕ → Type 0
@@ -46,10 +46,6 @@ waiting_from position wait (row ∷ rows) =
     then position ∷ waiting_from (position + 1) wait rows
     else waiting_from (position + 1) wait rows
 
--- whether, in High, a guest that wants to grow may
-abbrev pub can_grow : Thresholds → PoolView → Bool
-can_grow t pool = nat_lt t.soft pool.free && list_any wants_to_grow (rows_of pool.guests)
-
--- nothing is taken, and nothing can be granted
+-- nothing is taken, and no guest that wants to grow may
 abbrev pub IsAtRest : Thresholds → State → PoolView → Type 0
-IsAtRest t state pool = (state ≡ High) × (can_grow t pool ≡ false)
+IsAtRest t state pool = (state ≡ High) × ¬ CanGrow High t (plan_pool_of pool)

@@ -1,24 +1,25 @@
 // Whether a boundary leaves its guests what they have, which is told without a row for each of them.
 ghost use Rattle.std.specs.Prelude.{◌≡◌, ◌↔◌, [], IsTrue};
 ghost use Rattle.std.specs.List.{list_any};
+ghost use Rattle.vm_plan.specs.declared.state.State.TheVariants.{High};
+ghost use Rattle.vm_plan.specs.Grants.{CanGrow};
 ghost use Rattle.vm_plan.specs.Row.{wants_to_grow};
 ghost use Rattle.vm_pool.specs.Pool.{guest_at};
-ghost use Rattle.vm_reclaim.specs.Planning.{can_grow, IsAtRest};
-ghost use Rattle.vm_reclaim.specs.Rows.{row_at, rows_of};
+ghost use Rattle.vm_reclaim.specs.Planning.{IsAtRest};
+ghost use Rattle.vm_reclaim.specs.Rows.{plan_pool_of, row_at, rows_of};
 
 use crate::policy::Numbers;
 use crate::rows::row_at;
 use crate::told::{Blocked, BoundaryPlan, Paging};
 use std::alloc::Global;
-use vm_plan::{Plan, State};
+use vm_plan::{Plan, State, lets_grow};
 use vm_pool::Pool;
 
 // Whether the guest at a position wants to grow, and may.
 fn wants_to_grow(pool: &Pool, position: usize) -> bool
     ensures { result ≡ wants_to_grow (row_at (guest_at pool.now position)) }
 {
-    let row = row_at(pool, position);
-    row.demand > 0 && row.target < row.cap
+    row_at(pool, position).wants_to_grow()
 }
 
 // Whether some guest does.
@@ -35,9 +36,9 @@ fn some_wants_to_grow(pool: &Pool) -> bool
 
 // Whether, in High, a guest that wants to grow may. The guests are looked at only where enough frames are free.
 fn can_grow(numbers: &Numbers, pool: &Pool) -> bool
-    ensures { result ≡ can_grow numbers.now.thresholds pool.now }
+    ensures { IsTrue result ↔ CanGrow High numbers.now.thresholds (plan_pool_of pool.now) }
 {
-    pool.free() > numbers.thresholds.soft && some_wants_to_grow(pool)
+    lets_grow(State::High, pool.free(), &numbers.thresholds) && some_wants_to_grow(pool)
 }
 
 // Whether nothing is taken and nothing is granted: in High none is taken.
