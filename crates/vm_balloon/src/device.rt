@@ -66,21 +66,22 @@ impl Served {
 /// `list_ballooned` takes the time of [`PageSet::list_least`]; every other call takes constant time.
 #[derive(Drop)]
 pub struct Device {
-    size: u32,
-    buffers: u32,
-    balloon: PageSet,
+    // Page numbers while they are served.
+    numbers: Vec<u32>,
     early: PageSet,
     // The pages used early since the last service, each once.
     early_list: Vec<u32>,
     inflates: PageQueue,
     deflates: PageQueue,
+    // From here on stands what an epoch and a service look at where no page is posted.
     reports: Reports,
+    size: u32,
+    buffers: u32,
     num_pages: u32,
     actual: u32,
-    // Page numbers while they are served.
-    numbers: Vec<u32>,
     // The last service.
     served: Served,
+    balloon: PageSet,
 }
 
 impl Model for Device {

@@ -66,6 +66,10 @@ a target 60 held 60 swapped 0 balloon 0 active 65536 bad 0 done 0\n\
 b target 38 held 38 swapped 0 balloon 0 active 65536 bad 0 done 0\n\
 machine 100 held 98 free 0 overhead 2\n";
 
+pub(super) const STEP_THAT_CANNOT_BE_READ: &str =
+    "{\"version\":1,\"frames\":100,\"epochs\":1,\"guests\":[{\"name\":\"web\",\"size\":4,\"min\":4,\
+\"trace\":[\"i\",\"w 0 0 f\"]}]}";
+
 // A reader that gives these bytes, then so many spaces, and then fails or ends.
 #[derive(Drop)]
 pub(super) struct Given<'a> {

@@ -1,5 +1,7 @@
 // `vmmem`: exit statuses, what is said on standard error, and what is written.
-use super::setup::{FIRST_READ, FIRST_READ_REPORT, assert_bytes, assert_length};
+use super::setup::{
+    FIRST_READ, FIRST_READ_REPORT, STEP_THAT_CANNOT_BE_READ, assert_bytes, assert_length,
+};
 use super::system::{Broken, assert_has_spoken, assert_said, assert_status, with_words};
 use std::process::Abort;
 use std::thread::Threads;
@@ -53,10 +55,6 @@ fn a_failed_end_is_told(rt: HostRuntime) {
     assert_status(&rt, failed_write, 3);
     assert_said(&rt, writing, "vmmem: write failed\n");
 }
-
-const STEP_THAT_CANNOT_BE_READ: &str =
-    "{\"version\":1,\"frames\":100,\"epochs\":1,\"guests\":[{\"name\":\"web\",\"size\":4,\"min\":4,\
-\"trace\":[\"i\",\"w 0 0 f\"]}]}";
 
 #[test]
 fn a_refused_configuration_is_told_by_number(rt: HostRuntime) {

@@ -1,5 +1,5 @@
 // `vmseries`: exit statuses, what is said on standard error, and what is written.
-use super::setup::{assert_bytes, assert_length};
+use super::setup::{STEP_THAT_CANNOT_BE_READ, assert_bytes, assert_length};
 use super::system::{Broken, assert_has_spoken, assert_said, assert_status, with_words};
 use std::process::Abort;
 use std::test::Fail;
@@ -67,10 +67,6 @@ fn a_failed_end_is_told(rt: HostRuntime) {
 const MINIMUM_ABOVE_SIZE: &str =
     "{\"version\":1,\"frames\":100,\"epochs\":1,\"guests\":[{\"name\":\"a\",\"size\":4,\"min\":4},\
 {\"name\":\"b\",\"size\":4,\"min\":5}]}";
-
-const STEP_THAT_CANNOT_BE_READ: &str =
-    "{\"version\":1,\"frames\":100,\"epochs\":1,\"guests\":[{\"name\":\"web\",\"size\":4,\"min\":4,\
-\"trace\":[\"i\",\"w 0 0 f\"]}]}";
 
 const EPOCH_THAT_IS_A_TEXT: &str = "{\"version\":1,\"frames\":100,\"epochs\":1,\"guests\":[],\
 \"commands\":[{\"at\":0,\"line\":\"x\"},{\"at\":\"0\",\"line\":\"x\"}]}";
