@@ -73,7 +73,7 @@ pub struct Device {
     early_list: Vec<u32>,
     inflates: PageQueue,
     deflates: PageQueue,
-    // From here on stands what an epoch and a service look at where no page is posted.
+    // From here on stands most of what an epoch and a service look at where no page is posted.
     reports: Reports,
     size: u32,
     buffers: u32,
