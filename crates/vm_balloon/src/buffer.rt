@@ -3,11 +3,11 @@ ghost use Rattle.std.specs.Prelude.{◌≡◌, ℕ, ◌≤◌, List, length, tak
 use std::marker::Model;
 
 /// The most bytes that a posted buffer may have.
-pub const MOST_BYTES: usize = 1024;
+pub(crate) const MOST_BYTES: usize = 1024;
 
 /// The bytes of a posted buffer, which are kept in place.
 #[derive(Debug, Drop)]
-pub struct Buffer {
+pub(crate) struct Buffer {
     // Beside the first bytes, which are mostly all that there are.
     len: usize,
     bytes: [u8; MOST_BYTES],
@@ -23,7 +23,7 @@ impl Model for Buffer {
 
 impl Buffer {
     /// A copy of these bytes.
-    pub fn of(source: &[u8]) -> Self
+    pub(crate) fn of(source: &[u8]) -> Self
         requires { length source.now ≤ 1024 }
         ensures { result ≡ source.now }
     {
@@ -34,7 +34,7 @@ impl Buffer {
     }
 
     /// Becomes a copy of these bytes.
-    pub fn write(&mut self, source: &[u8])
+    pub(crate) fn write(&mut self, source: &[u8])
         requires { length source.now ≤ 1024 }
         ensures { self.new ≡ source.now }
     {
@@ -44,7 +44,7 @@ impl Buffer {
     }
 
     /// The bytes.
-    pub fn bytes(&self) -> &[u8]
+    pub(crate) fn bytes(&self) -> &[u8]
         ensures bytes { result.now ≡ self.now }
         ensures few { length self.now ≤ 1024 }
     {

@@ -8,7 +8,7 @@ use std::marker::Model;
 ///
 /// What was posted before is written over in its place, so a post takes time for its own bytes alone.
 #[derive(Drop)]
-pub struct Buffers {
+pub(crate) struct Buffers {
     places: Vec<Buffer>,
     // How many of the places have a posted buffer, from the first on.
     posted: usize,
@@ -28,7 +28,7 @@ impl Model for Buffers {
 
 impl Buffers {
     /// Room for so many buffers, none of which is posted. Memory is wanted only for some.
-    pub fn new(alloc: Global, room: usize) -> Result<Self, AllocError>
+    pub(crate) fn new(alloc: Global, room: usize) -> Result<Self, AllocError>
         ensures buffers { IfOk result (λ buffers. buffers ≡ record { room = room; list = [] }) }
         ensures memory { OnErr result (0 < room) }
     {
@@ -39,7 +39,7 @@ impl Buffers {
     }
 
     /// Posts a buffer.
-    pub fn push(&mut self, bytes: &[u8])
+    pub(crate) fn push(&mut self, bytes: &[u8])
         requires short { length bytes.now ≤ 1024 }
         requires room { length self.old.list < self.old.room }
         ensures { self.new ≡ record self.old { list = self.old.list ++ bytes.now ∷ [] } }
@@ -49,21 +49,21 @@ impl Buffers {
     }
 
     /// Takes all buffers out, in constant time.
-    pub fn clear(&mut self)
+    pub(crate) fn clear(&mut self)
         ensures { self.new ≡ record self.old { list = [] } }
     {
         self.posted = 0;
     }
 
     /// The buffers, in order of posting.
-    pub fn as_slice(&self) -> &[Buffer]
+    pub(crate) fn as_slice(&self) -> &[Buffer]
         ensures { result.now ≡ self.now.list }
     {
         &self.places[..self.posted]
     }
 
     /// How many buffers are posted.
-    pub fn len(&self) -> usize
+    pub(crate) fn len(&self) -> usize
         ensures { result ≡ length self.now.list }
     {
         self.posted

@@ -13,7 +13,7 @@ use vm_pages::PageSet;
 
 /// The page buffers that are posted to one queue, in order, and the set of the guest's pages that they name.
 #[derive(Drop)]
-pub struct PageQueue {
+pub(crate) struct PageQueue {
     size: u32,
     buffers: Buffers,
     named: PageSet,
@@ -33,7 +33,7 @@ impl Model for PageQueue {
 
 impl PageQueue {
     /// An empty queue of a guest of `size` pages, with room for so many buffers. Memory is wanted only for pages and buffers.
-    pub fn new(alloc: Global, size: u32, room: usize) -> Result<Self, AllocError>
+    pub(crate) fn new(alloc: Global, size: u32, room: usize) -> Result<Self, AllocError>
         requires { size ≤ 262144 }
         ensures queue { IfOk result (λ queue. queue ≡ record { size = size; room = room; buffers = [] }) }
         ensures memory { OnErr result (0 < size + room) }
@@ -46,7 +46,7 @@ impl PageQueue {
     }
 
     /// Posts a buffer, in time for its bytes.
-    pub fn push(&mut self, bytes: &[u8])
+    pub(crate) fn push(&mut self, bytes: &[u8])
         requires short { length bytes.now ≤ 1024 }
         requires room { length self.old.buffers < self.old.room }
         ensures { self.new ≡ record self.old { buffers = self.old.buffers ++ bytes.now ∷ [] } }
@@ -56,7 +56,7 @@ impl PageQueue {
     }
 
     /// Takes all buffers out, in time for their bytes.
-    pub fn clear(&mut self)
+    pub(crate) fn clear(&mut self)
         ensures { self.new ≡ record self.old { buffers = [] } }
     {
         unmark_all(self.buffers.as_slice(), self.size, &mut self.named);
@@ -64,28 +64,28 @@ impl PageQueue {
     }
 
     /// How many pages the guest has.
-    pub fn size(&self) -> u32
+    pub(crate) fn size(&self) -> u32
         ensures { result ≡ self.now.size }
     {
         self.size
     }
 
     /// The buffers, in order of posting.
-    pub fn buffers(&self) -> &[Buffer]
+    pub(crate) fn buffers(&self) -> &[Buffer]
         ensures { result.now ≡ self.now.buffers }
     {
         self.buffers.as_slice()
     }
 
     /// How many buffers are posted.
-    pub fn len(&self) -> usize
+    pub(crate) fn len(&self) -> usize
         ensures { result ≡ length self.now.buffers }
     {
         self.buffers.len()
     }
 
     /// Whether a buffer names the page, in constant time.
-    pub fn names(&self, page: u32) -> bool
+    pub(crate) fn names(&self, page: u32) -> bool
         requires { page < self.now.size }
         ensures { result ≡ names self.now.buffers page }
     {

@@ -13,7 +13,7 @@ use std::mem;
 ///
 /// What was served is kept as it came, and read where it is asked for.
 #[derive(Drop)]
-pub struct Reports {
+pub(crate) struct Reports {
     posted: Buffers,
     // Those of the last service that found any.
     served: Buffers,
@@ -33,7 +33,7 @@ impl Model for Reports {
 
 impl Reports {
     /// Room for so many buffers, none of which is posted or served. Memory is wanted only for some.
-    pub fn new(alloc: Global, room: usize) -> Result<Self, AllocError>
+    pub(crate) fn new(alloc: Global, room: usize) -> Result<Self, AllocError>
         ensures reports { IfOk result (λ reports. reports ≡ record { room = room; list = []; stats = no_stats }) }
         ensures memory { OnErr result (0 < room) }
     {
@@ -43,7 +43,7 @@ impl Reports {
     }
 
     /// Posts a buffer.
-    pub fn push(&mut self, bytes: &[u8])
+    pub(crate) fn push(&mut self, bytes: &[u8])
         requires short { length bytes.now ≤ 1024 }
         requires room { length self.old.list < self.old.room }
         ensures { self.new ≡ record self.old { list = self.old.list ++ bytes.now ∷ [] } }
@@ -52,7 +52,7 @@ impl Reports {
     }
 
     /// Takes all buffers out, in constant time. The last of them counts from now on, if there is one.
-    pub fn serve(&mut self)
+    pub(crate) fn serve(&mut self)
         ensures { self.new ≡ record self.old { list = []; stats = last_stats self.old.stats self.old.list } }
     {
         if has_some(self.posted.as_slice()) {
@@ -62,14 +62,14 @@ impl Reports {
     }
 
     /// What the last buffer said that was served.
-    pub fn stats(&self) -> Stats
+    pub(crate) fn stats(&self) -> Stats
         ensures { result ≡ self.now.stats }
     {
         last_stats(self.served.as_slice())
     }
 
     /// How many buffers are posted.
-    pub fn len(&self) -> usize
+    pub(crate) fn len(&self) -> usize
         ensures { result ≡ length self.now.list }
     {
         self.posted.len()

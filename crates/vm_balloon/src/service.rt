@@ -12,7 +12,7 @@ use crate::virtio::{page_count, page_number};
 use vm_pages::PageSet;
 
 /// Puts pages into the balloon of a guest of `size` pages, and lists those that were not in it yet.
-pub fn inflate(numbers: &[u32], size: u32, balloon: &mut PageSet, inflated: &mut Vec<u32>)
+pub(crate) fn inflate(numbers: &[u32], size: u32, balloon: &mut PageSet, inflated: &mut Vec<u32>)
     requires size { length balloon.old ≡ size }
     requires room { length numbers.now ≤ vec_capacity inflated.old }
     ensures inflated { inflated.new.items ≡ inflated_by balloon.old numbers.now }
@@ -33,7 +33,7 @@ pub fn inflate(numbers: &[u32], size: u32, balloon: &mut PageSet, inflated: &mut
 }
 
 /// Takes pages of a guest of `size` pages out of the balloon and from those used early, and lists those that were there.
-pub fn deflate(
+pub(crate) fn deflate(
     numbers: &[u32],
     size: u32,
     balloon: &mut PageSet,
@@ -80,7 +80,7 @@ fn can_deflate(size: u32, balloon: &PageSet, early: &PageSet, page: u32) -> bool
 }
 
 /// Reads the page numbers of page buffers, buffer by buffer, and counts the buffers that end in bytes which are no page number.
-pub fn read_numbers(buffers: &[Buffer], numbers: &mut Vec<u32>) -> u32
+pub(crate) fn read_numbers(buffers: &[Buffer], numbers: &mut Vec<u32>) -> u32
     requires few { length buffers.now ≤ 256 }
     requires room { HasRoomFor numbers.old buffers.now }
     ensures numbers { numbers.new.items ≡ numbers_in buffers.now }
@@ -114,7 +114,7 @@ fn push_numbers(bytes: &[u8], numbers: &mut Vec<u32>)
 }
 
 /// Empties a set by the list of what may be in it, in time for the list.
-pub fn clear_listed(list: &mut Vec<u32>, pages: &mut PageSet)
+pub(crate) fn clear_listed(list: &mut Vec<u32>, pages: &mut PageSet)
     requires { AreListed pages.old list.old.items (length pages.old) }
     ensures pages { pages.new ≡ no_pages (length pages.old) }
     ensures list { list.new.items ≡ [] }
@@ -135,7 +135,7 @@ fn remove_listed(list: &[u32], pages: &mut PageSet)
 }
 
 /// A push for which there is room, so that it takes no memory.
-pub fn push_within<T: Drop>(items: &mut Vec<T>, item: T)
+pub(crate) fn push_within<T: Drop>(items: &mut Vec<T>, item: T)
     requires room { vec_len items.old < vec_capacity items.old }
     ensures items { items.new.items ≡ items.old.items ++ item ∷ [] }
     ensures len { vec_len items.new ≡ vec_len items.old + 1 }

@@ -1,4 +1,4 @@
-ghost use Rattle.std.specs.Prelude.{◌≡◌, ◌<◌};
+ghost use Rattle.std.specs.Prelude.{◌≡◌, ◌<◌, ◌≤◌, vec_capacity};
 
 use std::alloc::Global;
 use std::process::Abort;
@@ -22,6 +22,22 @@ fn check_post(rt: &impl Abort, device: &mut Device, queue: Queue, bytes: &[u8])
     assert_eq!(rt; device.post(queue, bytes), Ok(()));
 }
 
+// Posts buffers, and asserts that the device takes each.
+fn check_posts(rt: &impl Abort, device: &mut Device, posts: &[(Queue, &[u8])]) {
+    for &(queue, bytes) in posts {
+        check_post(rt, device, queue, bytes);
+    }
+}
+
+// Asserts which the least pages in the balloon are.
+fn check_listed(rt: &impl Abort, device: &Device, most: u32, pages: &mut Vec<u32>, want: &[u32])
+    requires { most ≤ vec_capacity pages.old }
+    ensures { vec_capacity pages.new ≡ vec_capacity pages.old }
+{
+    device.list_ballooned(most, pages);
+    assert_eq!(rt; pages.as_slice(), want);
+}
+
 // Asserts how many pages are in the balloon.
 fn check_len(rt: &impl Abort, device: &Device, pages: u32) {
     assert_eq!(rt; device.balloon_len(), pages);
@@ -41,6 +57,11 @@ fn check_place(rt: &impl Abort, device: &Device, page: u32, ballooned: bool, ear
 {
     let place = (device.is_ballooned(page), device.is_early(page));
     assert_eq!(rt; place, (ballooned, early));
+}
+
+// Asserts how many bytes the driver said last that its guest has.
+fn check_total(rt: &impl Abort, device: &Device, total: Option<u64>) {
+    assert_eq!(rt; device.stats().total, total);
 }
 
 // Asserts what the driver said last.
@@ -104,10 +125,8 @@ fn ballooned_pages_are_listed(rt: HostRuntime) -> Result<(), Fail> {
     check_post(&rt, &mut device, Queue::Inflate, &six_one_and_four);
     check_service(&rt, &mut device, &[6, 1, 4], &[], 0);
     let mut pages = Vec::with_capacity(rt.alloc(), 4)?;
-    device.list_ballooned(2, &mut pages);
-    assert_eq!(rt; pages.as_slice(), [1, 4].as_slice());
-    device.list_ballooned(4, &mut pages);
-    assert_eq!(rt; pages.as_slice(), [1, 4, 6].as_slice());
+    check_listed(&rt, &device, 2, &mut pages, &[1, 4]);
+    check_listed(&rt, &device, 4, &mut pages, &[1, 4, 6]);
     Ok(())
 }
 
@@ -116,26 +135,40 @@ fn ballooned_pages_are_listed(rt: HostRuntime) -> Result<(), Fail> {
 fn places_are_used_again(rt: HostRuntime) -> Result<(), Fail> {
     let mut device = Device::new(rt.alloc(), 8, 4)?;
     let six_one_and_four = [6, 0, 0, 0, 1, 0, 0, 0, 4, 0, 0, 0];
-    check_post(&rt, &mut device, Queue::Inflate, &six_one_and_four);
-    check_post(&rt, &mut device, Queue::Inflate, &encode_page(3));
-    check_post(
+    let nine_in_all = [5, 0, 9, 0, 0, 0, 0, 0, 0, 0];
+    check_posts(
         &rt,
         &mut device,
-        Queue::Statistics,
-        &[5, 0, 9, 0, 0, 0, 0, 0, 0, 0],
+        &[
+            (Queue::Inflate, &six_one_and_four),
+            (Queue::Inflate, &encode_page(3)),
+            (Queue::Statistics, &nine_in_all),
+        ],
     );
     check_service(&rt, &mut device, &[6, 1, 4, 3], &[], 0);
-    assert_eq!(rt; device.stats().total, Some(9));
+    check_total(&rt, &device, Some(9));
 
-    check_post(&rt, &mut device, Queue::Inflate, &encode_page(5));
-    check_post(&rt, &mut device, Queue::Statistics, &[5, 0]);
+    check_posts(
+        &rt,
+        &mut device,
+        &[
+            (Queue::Inflate, &encode_page(5)),
+            (Queue::Statistics, &[5, 0]),
+        ],
+    );
     check_service(&rt, &mut device, &[5], &[], 0);
     check_stats(&rt, &device, Stats::default());
 
     let two_and_seven = [2, 0, 0, 0, 7, 0, 0, 0];
-    check_post(&rt, &mut device, Queue::Inflate, &[]);
-    check_post(&rt, &mut device, Queue::Inflate, &two_and_seven);
-    check_post(&rt, &mut device, Queue::Inflate, &encode_page(0));
+    check_posts(
+        &rt,
+        &mut device,
+        &[
+            (Queue::Inflate, &[]),
+            (Queue::Inflate, &two_and_seven),
+            (Queue::Inflate, &encode_page(0)),
+        ],
+    );
     check_service(&rt, &mut device, &[2, 7, 0], &[], 0);
     check_len(&rt, &device, 8);
     Ok(())

@@ -1,8 +1,10 @@
 // JSON values and what is read from them.
 use std::alloc::Global;
+use std::process::Abort;
 use std::test::Fail;
 use vm_json::{
-    ReadError, Scratch, into_items, is_object, items, member, read, take_member, text, truth, whole,
+    ReadError, Scratch, Value, into_items, is_object, items, member, read, take_member, text,
+    truth, whole,
 };
 
 // What `read` refuses bytes for.
@@ -89,6 +91,13 @@ fn last_member_of_a_name_counts(rt: HostRuntime) -> Result<(), Fail> {
     Ok(())
 }
 
+// Asserts the texts of values.
+fn check_texts(rt: &impl Abort, values: &[Value<'_>], wanted: &[&str]) {
+    for (value, word) in values.iter().zip(wanted) {
+        assert_eq!(rt; text(value), Some(*word));
+    }
+}
+
 #[test]
 fn texts_lose_their_escapes(rt: HostRuntime) -> Result<(), Fail> {
     let mut scratch = Scratch::new(rt.alloc());
@@ -102,9 +111,6 @@ fn texts_lose_their_escapes(rt: HostRuntime) -> Result<(), Fail> {
     let Some(values) = into_items(array) else {
         return Err(Fail::new("an array"));
     };
-    let wanted = ["aA", "😀", "plain"];
-    for (value, word) in values.iter().zip(wanted) {
-        assert_eq!(rt; text(value), Some(word));
-    }
+    check_texts(&rt, &values, &["aA", "😀", "plain"]);
     Ok(())
 }

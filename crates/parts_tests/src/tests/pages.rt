@@ -1,6 +1,27 @@
 // Sets of pages.
+ghost use Rattle.std.specs.Prelude.{◌≡◌, ◌≤◌, vec_capacity};
+
+use std::process::Abort;
 use std::test::Fail;
 use vm_pages::PageSet;
+
+// Asserts which the greatest pages of a set are.
+fn check_greatest(rt: &impl Abort, set: &PageSet, most: u32, pages: &mut Vec<u32>, want: &[u32])
+    requires { most ≤ vec_capacity pages.old }
+    ensures { vec_capacity pages.new ≡ vec_capacity pages.old }
+{
+    set.list_greatest(most, pages);
+    assert_eq!(rt; pages.as_slice(), want);
+}
+
+// Asserts which the least pages of a set are.
+fn check_least(rt: &impl Abort, set: &PageSet, most: u32, pages: &mut Vec<u32>, want: &[u32])
+    requires { most ≤ vec_capacity pages.old }
+    ensures { vec_capacity pages.new ≡ vec_capacity pages.old }
+{
+    set.list_least(most, pages);
+    assert_eq!(rt; pages.as_slice(), want);
+}
 
 #[test]
 fn pages_are_listed_in_order(rt: HostRuntime) -> Result<(), Fail> {
@@ -31,15 +52,10 @@ fn extremes_are_listed_over_blocks(rt: HostRuntime) -> Result<(), Fail> {
     assert!(rt; set.insert(599));
     assert!(rt; set.insert(255));
     let mut pages = Vec::with_capacity(rt.alloc(), 8)?;
-    set.list_greatest(3, &mut pages);
-    assert_eq!(rt; pages.as_slice(), [599, 256, 255].as_slice());
-    set.list_least(2, &mut pages);
-    assert_eq!(rt; pages.as_slice(), [0, 255].as_slice());
-    set.list_greatest(8, &mut pages);
-    assert_eq!(rt; pages.as_slice(), [599, 256, 255, 0].as_slice());
-    set.list_least(8, &mut pages);
-    assert_eq!(rt; pages.as_slice(), [0, 255, 256, 599].as_slice());
-    set.list_greatest(0, &mut pages);
-    assert!(rt; pages.is_empty());
+    check_greatest(&rt, &set, 3, &mut pages, &[599, 256, 255]);
+    check_least(&rt, &set, 2, &mut pages, &[0, 255]);
+    check_greatest(&rt, &set, 8, &mut pages, &[599, 256, 255, 0]);
+    check_least(&rt, &set, 8, &mut pages, &[0, 255, 256, 599]);
+    check_greatest(&rt, &set, 0, &mut pages, &[]);
     Ok(())
 }

@@ -23,6 +23,16 @@ fn price(shares: u32, pages: u32, active: u32) -> Price
     }
 }
 
+// Asserts where the least price stands.
+fn check_least(rt: &impl Abort, winners: &Winners, want: Option<u32>) {
+    assert_eq!(rt; winners.least(), want);
+}
+
+// Asserts where the greatest price stands.
+fn check_greatest(rt: &impl Abort, greatest: &Greatest, want: Option<u32>) {
+    assert_eq!(rt; greatest.greatest(), want);
+}
+
 #[test]
 fn prices_compare_as_fractions(rt: HostRuntime) {
     let active = 65536;
@@ -98,11 +108,11 @@ fn used_pages_weigh_less(rt: HostRuntime) {
 fn winners_follow_changes(rt: HostRuntime) -> Result<(), Fail> {
     let prices = [Some(price(100, 10, 65536)), Some(price(100, 5, 0))];
     let mut winners = Winners::new(rt.alloc(), &prices)?;
-    assert_eq!(rt; winners.least(), Some(1));
+    check_least(&rt, &winners, Some(1));
     winners.set(1, None);
-    assert_eq!(rt; winners.least(), Some(0));
+    check_least(&rt, &winners, Some(0));
     winners.set(0, None);
-    assert_eq!(rt; winners.least(), None);
+    check_least(&rt, &winners, None);
     Ok(())
 }
 
@@ -110,7 +120,7 @@ fn winners_follow_changes(rt: HostRuntime) -> Result<(), Fail> {
 fn equal_prices_go_to_the_lower_position(rt: HostRuntime) -> Result<(), Fail> {
     let prices = [Some(price(100, 5, 65536)), Some(price(100, 5, 65536))];
     let winners = Winners::new(rt.alloc(), &prices)?;
-    assert_eq!(rt; winners.least(), Some(0));
+    check_least(&rt, &winners, Some(0));
     Ok(())
 }
 
@@ -121,21 +131,21 @@ fn any_number_of_positions(rt: HostRuntime) -> Result<(), Fail> {
     { Some(price(100, pages, 65536)) };
     let prices = [pages(3), pages(9), None, pages(9), pages(5)];
     let mut winners = Winners::new(rt.alloc(), &prices)?;
-    assert_eq!(rt; winners.least(), Some(1));
+    check_least(&rt, &winners, Some(1));
     winners.set(1, pages(8));
-    assert_eq!(rt; winners.least(), Some(3));
+    check_least(&rt, &winners, Some(3));
     winners.set(2, pages(20));
-    assert_eq!(rt; winners.least(), Some(2));
+    check_least(&rt, &winners, Some(2));
     winners.set(2, None);
     winners.set(3, None);
-    assert_eq!(rt; winners.least(), Some(1));
+    check_least(&rt, &winners, Some(1));
     Ok(())
 }
 
 #[test]
 fn no_positions(rt: HostRuntime) -> Result<(), Fail> {
     let winners = Winners::new(rt.alloc(), &[])?;
-    assert_eq!(rt; winners.least(), None);
+    check_least(&rt, &winners, None);
     Ok(())
 }
 
@@ -148,22 +158,23 @@ fn greatest_follows_changes(rt: HostRuntime) -> Result<(), Fail> {
         Some(price(200, 20, 65536)),
     ];
     let mut greatest = Greatest::new(rt.alloc(), &prices)?;
-    assert_eq!(rt; greatest.greatest(), Some(1), "the lower of two equal ones");
+    // The lower of two equal ones.
+    check_greatest(&rt, &greatest, Some(1));
     greatest.set(1, None);
-    assert_eq!(rt; greatest.greatest(), Some(3));
+    check_greatest(&rt, &greatest, Some(3));
     greatest.set(2, Some(price(100, 9, 65536)));
-    assert_eq!(rt; greatest.greatest(), Some(2));
+    check_greatest(&rt, &greatest, Some(2));
     greatest.set(2, None);
     greatest.set(3, None);
-    assert_eq!(rt; greatest.greatest(), Some(0));
+    check_greatest(&rt, &greatest, Some(0));
     greatest.set(0, None);
-    assert_eq!(rt; greatest.greatest(), None);
+    check_greatest(&rt, &greatest, None);
     Ok(())
 }
 
 #[test]
 fn greatest_of_no_positions(rt: HostRuntime) -> Result<(), Fail> {
     let greatest = Greatest::new(rt.alloc(), &[])?;
-    assert_eq!(rt; greatest.greatest(), None);
+    check_greatest(&rt, &greatest, None);
     Ok(())
 }
