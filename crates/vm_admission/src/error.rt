@@ -2,7 +2,7 @@ use std::error::Error;
 use std::fmt;
 
 /// What the machine lacks for a guest or a new minimum. `error as u8` is 1 or 2.
-#[derive(Clone, Copy, Debug, PartialEq, Eq, Hash)]
+#[derive(Clone, Copy, Debug, PartialEq, Eq)]
 pub enum AdmissionError {
     /// The sum of the minimums and overheads would exceed the machine's frames.
     NoMemory = 1,

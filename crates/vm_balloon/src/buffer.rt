@@ -6,7 +6,7 @@ use std::marker::Model;
 pub(crate) const MOST_BYTES: usize = 1024;
 
 /// The bytes of a posted buffer, which are kept in place.
-#[derive(Debug, Drop)]
+#[derive(Drop)]
 pub(crate) struct Buffer {
     // Beside the first bytes, which are mostly all that there are.
     len: usize,

@@ -5,7 +5,7 @@ ghost use Rattle.vm_config.specs.Places.{name_of};
 use std::fmt;
 
 /// A key of the root, of a guest or of a command, in the order in which the keys of each are looked at.
-#[derive(Clone, Copy, Debug, PartialEq, Eq, Hash)]
+#[derive(Clone, Copy, Debug, PartialEq, Eq)]
 pub enum Key {
     /// `version` of the root.
     Version,
@@ -95,7 +95,7 @@ impl Key {
 }
 
 /// An object of a configuration. Guests and commands are counted from 0, in the order of the text.
-#[derive(Clone, Copy, Debug, PartialEq, Eq, Hash)]
+#[derive(Clone, Copy, Debug, PartialEq, Eq)]
 pub enum Part {
     /// The root.
     Root,
@@ -106,7 +106,7 @@ pub enum Part {
 }
 
 /// Where a fault stands.
-#[derive(Clone, Copy, Debug, PartialEq, Eq, Hash)]
+#[derive(Clone, Copy, Debug, PartialEq, Eq)]
 pub enum Place {
     /// The text as a whole, which is no JSON text, or no object.
     Text,

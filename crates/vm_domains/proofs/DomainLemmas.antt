@@ -1,8 +1,7 @@
 -- For callers: names and configurations, side by side.
-use Rattle.std.proofs.Common.{◌≡◌, ℕ, ◌+◌, Bool, true, false, List, [], ◌∷◌, ◌++◌, length, map, refl, sym, ap, ◌∙◌, arith, cond, ◌||◌, Some, None}
-use Rattle.std.proofs.lemmas.Iterator.Adapters.{position_from-zero}
-use Rattle.std.specs.Prelude.{position}
-use Rattle.std.specs.List.{position_from, list_any}
+use Rattle.std.proofs.Common.{◌≡◌, ℕ, ◌+◌, Bool, true, false, List, [], ◌∷◌, ◌++◌, length, map, refl, sym, ap, ◌∙◌, arith, cond, Some}
+use Rattle.std.specs.Prelude.{Option}
+use Rattle.std.specs.List.{position_from}
 use Rattle.vm_guest.specs.Config.{GuestConfig}
 use Rattle.vm_domains.specs.Domains.{configs_of, domains_of, names_of}
 
@@ -32,22 +31,10 @@ domains_of-push (first ∷ names) [] name config same = absurd (omega (arith, sa
 domains_of-push (first ∷ names) (other ∷ configs) name config same =
     ap (λ rest. record { name = first; config = other } ∷ rest) (domains_of-push names configs name config (omega (arith, same)))
 
-pub position_from-map : {A B : Type 0} (f : A → B) (test : B → Bool) (first : ℕ) (xs : List A) → position_from test first (map f xs) ≡ position_from (λ x. test (f x)) first xs
-position_from-map f test first [] = refl
-position_from-map f test first (x ∷ xs) = ap (λ rest. cond (test (f x)) (Some first) rest) (position_from-map f test (first + 1) xs)
+-- the first that is left passes, so it is the place
+pub position_here : {A : Type 0} (test : A → Bool) (place : ℕ) (x : A) (rest : List A) (whole : Option ℕ) → test x ≡ true → position_from test place (x ∷ rest) ≡ whole → Some place ≡ whole
+position_here test place x rest whole passes is = sym (ap (λ b. cond b (Some place) (position_from test (place + 1) rest)) passes) ∙ is
 
-pub position-map : {A B : Type 0} (f : A → B) (test : B → Bool) (xs : List A) → position test (map f xs) ≡ position (λ x. test (f x)) xs
-position-map f test xs =
-    position_from-zero test (map f xs) ∙ position_from-map f test 0 xs ∙ sym (position_from-zero (λ x. test (f x)) xs)
-
-none_passes_from : {A : Type 0} (test : A → Bool) (first : ℕ) (xs : List A) → position_from test first xs ≡ None → list_any test xs ≡ false
-none_passes_from test first [] none = refl
-none_passes_from test first (x ∷ xs) none =
-    elim (test x) as (λ b. cond b (Some first) (position_from test (first + 1) xs) ≡ None → (b || list_any test xs) ≡ false) [
-      | true ↦ λ h. absurd (cc h)
-      | false ↦ λ h. none_passes_from test (first + 1) xs h
-    ] none
-
--- a test that no element passes
-pub none_passes : {A : Type 0} (test : A → Bool) (xs : List A) → position test xs ≡ None → list_any test xs ≡ false
-none_passes test xs none = none_passes_from test 0 xs (sym (position_from-zero test xs) ∙ none)
+-- the first that is left doesn't pass, so the place is among the others
+pub position_next : {A : Type 0} (test : A → Bool) (place : ℕ) (x : A) (rest : List A) (whole : Option ℕ) → test x ≡ false → position_from test place (x ∷ rest) ≡ whole → position_from test (place + 1) rest ≡ whole
+position_next test place x rest whole fails is = sym (ap (λ b. cond b (Some place) (position_from test (place + 1) rest)) fails) ∙ is

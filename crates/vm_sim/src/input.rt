@@ -10,7 +10,7 @@ use crate::stream::Source;
 use std::alloc::Global;
 
 // Why an input was not read.
-#[derive(Clone, Copy, Debug, PartialEq, Eq)]
+#[derive(Clone, Copy)]
 pub(crate) enum InputError {
     // The source failed.
     Failed,

@@ -293,5 +293,6 @@ pub fn run<RT: Threads + Sync, G: Gate + Sync, R: Source, W: Sink>(
     let crew = Crew { rt, gate, workers };
     let input = read_text(alloc, reader)?;
     let config = read_config(alloc, &input)?;
+    drop(input);
     simulate(alloc, &crew, config, writer)
 }

@@ -8,7 +8,7 @@ use crate::step::{Action, Queue};
 
 // The bytes of a write and of a raw buffer lie in one list beside all entries, `len` of them from `start` on. So each
 // entry has the same small size, whatever its bytes.
-#[derive(Clone, Copy, Debug)]
+#[derive(Clone, Copy)]
 pub(crate) enum Entry {
     Read {
         page: u32,

@@ -5,7 +5,7 @@ use crate::bytes::Bytes;
 use std::marker::Model;
 
 /// A queue of the balloon device (OASIS VIRTIO 1.2, section 5.5.2).
-#[derive(Clone, Copy, Debug, PartialEq, Eq, Hash)]
+#[derive(Clone, Copy, Debug, PartialEq, Eq)]
 pub enum Queue {
     /// Pages that the guest puts into the balloon.
     Inflate,

@@ -11,7 +11,7 @@ use std::marker::Model;
 
 /// The steps of one guest, in order: 16 bytes a step, and the bytes of its writes and raw buffers. A clause reads
 /// them as a list.
-#[derive(Debug, Drop)]
+#[derive(Drop)]
 pub struct Trace {
     entries: Vec<Entry>,
     bytes: Vec<u8>,

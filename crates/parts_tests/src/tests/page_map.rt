@@ -1,6 +1,33 @@
 // Pages and the frames under them.
+ghost use Rattle.std.specs.Prelude.{◌<◌, length};
+ghost use Rattle.vm_pagemap.specs.PageMap.{IsIn, page_at};
+
+use std::process::Abort;
 use vm_frames::Machine;
 use vm_pagemap::{PageMap, Place};
+
+// The pages that are in, least first.
+fn check_resident(rt: &impl Abort, map: &PageMap, pages: &[u32]) {
+    assert_eq!(rt; map.resident() as usize, pages.len());
+    for place in 0..map.resident() {
+        assert_eq!(rt; map.resident_at(place), pages[place as usize]);
+    }
+}
+
+fn check_place(rt: &impl Abort, map: &PageMap, page: u32, place: Place)
+    requires { page < length map.now }
+{
+    assert_eq!(rt; map.place(page), place);
+}
+
+fn check_bytes(rt: &impl Abort, map: &PageMap)
+    requires in_range { 2 < length map.now }
+    requires is_in { IsIn (page_at map.now 2) }
+{
+    let mut bytes = [0; 3];
+    map.read(2, 4093, &mut bytes);
+    assert_eq!(rt; bytes, [0, 7, 8]);
+}
 
 #[test]
 fn pages_are_listed_in_order(rt: HostRuntime) {
@@ -10,10 +37,9 @@ fn pages_are_listed_in_order(rt: HostRuntime) {
     let second = machine.take().expect(&rt, "a free frame");
     map.put_frame(5, first);
     map.put_frame(2, second);
-    assert_eq!(rt; map.resident(), 2);
-    assert_eq!(rt; [map.resident_at(0), map.resident_at(1)], [2, 5]);
+    check_resident(&rt, &map, &[2, 5]);
     let first = map.remove_frame(5);
-    assert_eq!(rt; map.resident_at(0), 2);
+    check_resident(&rt, &map, &[2]);
     let second = map.remove_frame(2);
     machine.give(first);
     machine.give(second);
@@ -29,20 +55,17 @@ fn pages_come_and_go(rt: HostRuntime) {
     if let Some(frame) = machine.take() {
         map.put_frame(2, frame);
         map.write(2, 4094, &[7, 8]);
-        let mut bytes = [0; 3];
-        map.read(2, 4093, &mut bytes);
-        assert_eq!(rt; bytes, [0, 7, 8]);
-        assert_eq!(rt; map.place(2), Place::In);
-        assert_eq!(rt; map.resident(), 1);
-        assert_eq!(rt; map.resident_at(0), 2);
+        check_bytes(&rt, &map);
+        check_place(&rt, &map, 2, Place::In);
+        check_resident(&rt, &map, &[2]);
         let frame = map.remove_frame(2);
         map.mark_out(2);
-        assert_eq!(rt; map.place(2), Place::Out);
+        check_place(&rt, &map, 2, Place::Out);
         map.mark_absent(2);
         machine.give(frame);
     }
-    assert_eq!(rt; map.resident(), 0);
-    assert_eq!(rt; map.place(2), Place::Absent);
+    check_resident(&rt, &map, &[]);
+    check_place(&rt, &map, 2, Place::Absent);
     map.close();
     assert_eq!(rt; machine.free(), 1);
     machine.close();

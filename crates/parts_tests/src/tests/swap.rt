@@ -1,6 +1,38 @@
 // Swap areas.
+use std::process::Abort;
 use std::test::Fail;
 use vm_swap::{PAGE_BYTES, SwapArea};
+
+// The page is there, and each of its bytes is this one.
+fn check_page(rt: &impl Abort, area: &SwapArea, page: u32, byte: u8) {
+    let mut buffer = [byte ^ 255; PAGE_BYTES];
+    assert!(rt; area.get_into(page, &mut buffer));
+    assert!(rt; buffer.iter().all(|found| *found == byte));
+}
+
+// The page is not there, and a buffer stays as it was.
+fn check_absent(rt: &impl Abort, area: &SwapArea, page: u32) {
+    let mut buffer = [1; PAGE_BYTES];
+    assert!(rt; !area.get_into(page, &mut buffer));
+    assert!(rt; buffer.iter().all(|found| *found == 1));
+}
+
+// So many pages, and room for so many.
+fn check_sizes(rt: &impl Abort, area: &SwapArea, pages: u32, capacity: u32) {
+    assert_eq!(rt; area.len(), pages);
+    assert_eq!(rt; area.capacity(), capacity);
+}
+
+// Of two pages one becomes zeros and then goes. The other one, which moves, is found.
+fn check_changes(rt: &impl Abort, area: &mut SwapArea) {
+    assert!(rt; area.zero_page(7));
+    check_page(rt, area, 7, 0);
+    check_page(rt, area, 8, 8);
+    assert!(rt; area.drop_page(7));
+    assert!(rt; !area.drop_page(7));
+    check_sizes(rt, area, 1, 2);
+    check_page(rt, area, 8, 8);
+}
 
 #[test]
 fn swap_area(rt: HostRuntime) -> Result<(), Fail> {
@@ -8,31 +40,10 @@ fn swap_area(rt: HostRuntime) -> Result<(), Fail> {
     area.put(7, &[7; PAGE_BYTES]);
     area.grow(1)?;
     area.put(8, &[8; PAGE_BYTES]);
-    assert_eq!(rt; area.len(), 2);
-    assert_eq!(rt; area.capacity(), 2);
-
-    let mut buffer = [1; PAGE_BYTES];
-    assert!(rt; !area.get_into(9, &mut buffer));
-    assert!(rt;
-        buffer.iter().all(|byte| *byte == 1),
-        "an absent page leaves the buffer"
-    );
-    assert!(rt; area.get_into(7, &mut buffer));
-    assert!(rt; buffer.iter().all(|byte| *byte == 7));
-    assert!(rt; area.zero_page(7));
-    assert!(rt; area.get_into(7, &mut buffer));
-    assert!(rt; buffer.iter().all(|byte| *byte == 0));
-    assert!(rt; area.get_into(8, &mut buffer));
-    assert!(rt; buffer.iter().all(|byte| *byte == 8));
-
-    assert!(rt; area.drop_page(7));
-    assert!(rt; !area.drop_page(7));
-    assert_eq!(rt; area.len(), 1);
-    assert!(rt; area.get_into(8, &mut buffer));
-    assert!(rt;
-        buffer.iter().all(|byte| *byte == 8),
-        "the page that moved is found"
-    );
+    check_sizes(&rt, &area, 2, 2);
+    check_absent(&rt, &area, 9);
+    check_page(&rt, &area, 7, 7);
+    check_changes(&rt, &mut area);
     Ok(())
 }
 
@@ -41,9 +52,7 @@ fn greatest_area(rt: HostRuntime) -> Result<(), Fail> {
     // 256 GiB of pages: more than a machine need have, as long as they are not used.
     let mut area = SwapArea::new(rt.alloc(), 67108864)?;
     area.put(262143, &[9; PAGE_BYTES]);
-    let mut buffer = [0; PAGE_BYTES];
-    assert!(rt; area.get_into(262143, &mut buffer));
-    assert!(rt; buffer.iter().all(|byte| *byte == 9));
+    check_page(&rt, &area, 262143, 9);
     assert!(rt; !area.zero_page(0));
     Ok(())
 }

@@ -1,4 +1,6 @@
-use Rattle.std.proofs.Common.{◌≡◌, ℕ, ◌<◌, List, length, set, sym, ◌∙◌, rules}
+use Rattle.std.proofs.Common.{◌≡◌, ℕ, ◌<◌, List, length, set, sym, ◌∙◌, rules, IsTrue}
+use Rattle.std.specs.FinSet.{FinSet, contains, insert}
+use Rattle.std.specs.Ordering.{nat_cmp}
 use Rattle.std.proofs.lemmas.List.{length-set}
 use Rattle.vm_frames.specs.Frame.{FrameView}
 use Rattle.vm_frames.proofs.NumberSets.{set_members}
@@ -17,9 +19,13 @@ kept pages page offset new put taken there is =
     let held = rw (page_at-set pages page (In put) there) at at in
     cc
 
+-- a frame that was taken is out
+is_out : (out : FinSet nat_cmp) (number : ℕ) → IsTrue (contains (insert out number) number)
+is_out out number = grind set_members
+
 pub give-requires : goal.give-requires
 give-requires g c =
     let there : 2 < length c.expect-map.result = search rules in
     let taken = rw (c.write.ensures, c.put_frame.ensures) at c.remove_frame-frame.ensures.frame in
     let same : c.in-Some.frame.number ≡ c.remove_frame-frame.result.number = kept _ _ _ _ _ _ there taken in
-    rw (← same, c.in-Some.ensures.taken) (grind set_members)
+    rw (← same, c.in-Some.ensures.taken) (is_out _ _)
