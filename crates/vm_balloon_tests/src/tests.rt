@@ -30,12 +30,17 @@ fn check_posts(rt: &impl Abort, device: &mut Device, posts: &[(Queue, &[u8])]) {
 }
 
 // Asserts which the least pages in the balloon are.
-fn check_listed(rt: &impl Abort, device: &Device, most: u32, pages: &mut Vec<u32>, want: &[u32])
-    requires { most ≤ vec_capacity pages.old }
-    ensures { vec_capacity pages.new ≡ vec_capacity pages.old }
-{
-    device.list_ballooned(most, pages);
+fn check_listed(
+    rt: &impl Abort,
+    alloc: Global,
+    device: &Device,
+    most: u32,
+    want: &[u32],
+) -> Result<(), Fail> {
+    let mut pages = Vec::with_capacity(alloc, most as usize)?;
+    device.list_ballooned(most, &mut pages);
     assert_eq!(rt; pages.as_slice(), want);
+    Ok(())
 }
 
 // Asserts how many pages are in the balloon.
@@ -79,6 +84,22 @@ fn check_config(rt: &impl Abort, device: &Device, bytes: [u8; 8]) {
     assert_eq!(rt; device.config(), bytes);
 }
 
+// Runs the steps of a test on a device that only this function owns, since a function that owns one is proved to free all parts
+// of it wherever it may end.
+fn on_device<F: FnOnce(&mut Device) -> Result<(), Fail>>(
+    alloc: Global,
+    size: u32,
+    buffers: u32,
+    steps: F,
+) -> Result<(), Fail>
+    requires size_in_range { size ≤ 262144 }
+    requires buffers_in_range { buffers ≤ 256 }
+    requires callable { (device : _) → device.now.size ≡ size → F.pre steps device }
+{
+    let mut device = Device::new(alloc, size, buffers)?;
+    steps(&mut device)
+}
+
 // Puts the last of four pages into the balloon, and uses it early.
 fn use_early(rt: &impl Abort, device: &mut Device)
     requires { device.old.size ≡ 4 }
@@ -101,161 +122,162 @@ fn check_report(rt: &impl Abort, device: &mut Device, report: &[u8], want: Stats
 
 #[test]
 fn service(rt: HostRuntime) -> Result<(), Fail> {
-    let mut device = Device::new(rt.alloc(), 4, 2)?;
-    let three_two_and_a_rest = [3, 0, 0, 0, 2, 0, 0, 0, 3];
-    check_post(&rt, &mut device, Queue::Inflate, &three_two_and_a_rest);
-    check_service(&rt, &mut device, &[3, 2], &[], 1);
-    check_len(&rt, &device, 2);
+    on_device(rt.alloc(), 4, 2, |device| {
+        let three_two_and_a_rest = [3, 0, 0, 0, 2, 0, 0, 0, 3];
+        check_post(&rt, device, Queue::Inflate, &three_two_and_a_rest);
+        check_service(&rt, device, &[3, 2], &[], 1);
+        check_len(&rt, device, 2);
 
-    let past_the_end_and_again = [255, 255, 255, 255, 3, 0, 0, 0];
-    check_post(&rt, &mut device, Queue::Inflate, &past_the_end_and_again);
-    check_service(&rt, &mut device, &[], &[], 2);
+        let past_the_end_and_again = [255, 255, 255, 255, 3, 0, 0, 0];
+        check_post(&rt, device, Queue::Inflate, &past_the_end_and_again);
+        check_service(&rt, device, &[], &[], 2);
 
-    check_post(&rt, &mut device, Queue::Deflate, &encode_page(2));
-    check_service(&rt, &mut device, &[], &[2], 0);
-    check_post(&rt, &mut device, Queue::Deflate, &encode_page(2));
-    check_service(&rt, &mut device, &[], &[], 1);
-    Ok(())
+        check_post(&rt, device, Queue::Deflate, &encode_page(2));
+        check_service(&rt, device, &[], &[2], 0);
+        check_post(&rt, device, Queue::Deflate, &encode_page(2));
+        check_service(&rt, device, &[], &[], 1);
+        Ok(())
+    })
 }
 
 #[test]
 fn ballooned_pages_are_listed(rt: HostRuntime) -> Result<(), Fail> {
-    let mut device = Device::new(rt.alloc(), 8, 2)?;
-    let six_one_and_four = [6, 0, 0, 0, 1, 0, 0, 0, 4, 0, 0, 0];
-    check_post(&rt, &mut device, Queue::Inflate, &six_one_and_four);
-    check_service(&rt, &mut device, &[6, 1, 4], &[], 0);
-    let mut pages = Vec::with_capacity(rt.alloc(), 4)?;
-    check_listed(&rt, &device, 2, &mut pages, &[1, 4]);
-    check_listed(&rt, &device, 4, &mut pages, &[1, 4, 6]);
-    Ok(())
+    on_device(rt.alloc(), 8, 2, |device| {
+        let six_one_and_four = [6, 0, 0, 0, 1, 0, 0, 0, 4, 0, 0, 0];
+        check_post(&rt, device, Queue::Inflate, &six_one_and_four);
+        check_service(&rt, device, &[6, 1, 4], &[], 0);
+        check_listed(&rt, rt.alloc(), device, 2, &[1, 4])?;
+        check_listed(&rt, rt.alloc(), device, 4, &[1, 4, 6])?;
+        Ok(())
+    })
 }
 
 // What is posted after a service takes the places of what was posted before it, also where it is shorter.
 #[test]
 fn places_are_used_again(rt: HostRuntime) -> Result<(), Fail> {
-    let mut device = Device::new(rt.alloc(), 8, 4)?;
-    let six_one_and_four = [6, 0, 0, 0, 1, 0, 0, 0, 4, 0, 0, 0];
-    let nine_in_all = [5, 0, 9, 0, 0, 0, 0, 0, 0, 0];
-    check_posts(
-        &rt,
-        &mut device,
-        &[
-            (Queue::Inflate, &six_one_and_four),
-            (Queue::Inflate, &encode_page(3)),
-            (Queue::Statistics, &nine_in_all),
-        ],
-    );
-    check_service(&rt, &mut device, &[6, 1, 4, 3], &[], 0);
-    check_total(&rt, &device, Some(9));
+    on_device(rt.alloc(), 8, 4, |device| {
+        let six_one_and_four = [6, 0, 0, 0, 1, 0, 0, 0, 4, 0, 0, 0];
+        let nine_in_all = [5, 0, 9, 0, 0, 0, 0, 0, 0, 0];
+        check_posts(
+            &rt,
+            device,
+            &[
+                (Queue::Inflate, &six_one_and_four),
+                (Queue::Inflate, &encode_page(3)),
+                (Queue::Statistics, &nine_in_all),
+            ],
+        );
+        check_service(&rt, device, &[6, 1, 4, 3], &[], 0);
+        check_total(&rt, device, Some(9));
 
-    check_posts(
-        &rt,
-        &mut device,
-        &[
-            (Queue::Inflate, &encode_page(5)),
-            (Queue::Statistics, &[5, 0]),
-        ],
-    );
-    check_service(&rt, &mut device, &[5], &[], 0);
-    check_stats(&rt, &device, Stats::default());
+        check_posts(
+            &rt,
+            device,
+            &[
+                (Queue::Inflate, &encode_page(5)),
+                (Queue::Statistics, &[5, 0]),
+            ],
+        );
+        check_service(&rt, device, &[5], &[], 0);
+        check_stats(&rt, device, Stats::default());
 
-    let two_and_seven = [2, 0, 0, 0, 7, 0, 0, 0];
-    check_posts(
-        &rt,
-        &mut device,
-        &[
-            (Queue::Inflate, &[]),
-            (Queue::Inflate, &two_and_seven),
-            (Queue::Inflate, &encode_page(0)),
-        ],
-    );
-    check_service(&rt, &mut device, &[2, 7, 0], &[], 0);
-    check_len(&rt, &device, 8);
-    Ok(())
+        let two_and_seven = [2, 0, 0, 0, 7, 0, 0, 0];
+        check_posts(
+            &rt,
+            device,
+            &[
+                (Queue::Inflate, &[]),
+                (Queue::Inflate, &two_and_seven),
+                (Queue::Inflate, &encode_page(0)),
+            ],
+        );
+        check_service(&rt, device, &[2, 7, 0], &[], 0);
+        check_len(&rt, device, 8);
+        Ok(())
+    })
 }
 
 #[test]
 fn refused_posts(rt: HostRuntime) -> Result<(), Fail> {
-    let mut device = Device::new(rt.alloc(), 4, 2)?;
-    check_post(&rt, &mut device, Queue::Inflate, &[]);
-    check_refusal(
-        &rt,
-        &mut device,
-        Queue::Inflate,
-        &[0; 1025],
-        PostError::TooLong,
-    );
-    check_post(&rt, &mut device, Queue::Statistics, &[0; 1024]);
-    check_refusal(&rt, &mut device, Queue::Deflate, &[], PostError::Full);
-    check_refusal(
-        &rt,
-        &mut device,
-        Queue::Deflate,
-        &[0; 1025],
-        PostError::TooLong,
-    );
-    Ok(())
+    on_device(rt.alloc(), 4, 2, |device| {
+        check_post(&rt, device, Queue::Inflate, &[]);
+        check_refusal(&rt, device, Queue::Inflate, &[0; 1025], PostError::TooLong);
+        check_post(&rt, device, Queue::Statistics, &[0; 1024]);
+        check_refusal(&rt, device, Queue::Deflate, &[], PostError::Full);
+        check_refusal(&rt, device, Queue::Deflate, &[0; 1025], PostError::TooLong);
+        Ok(())
+    })
+}
+
+// Posts an inflate of page 2 and then its deflate, and asserts how both are posted until they are served.
+fn check_posted_until_served(rt: &impl Abort, device: &mut Device)
+    requires { device.old.size ≡ 4 }
+{
+    check_post(rt, device, Queue::Inflate, &encode_page(2));
+    check_post(rt, device, Queue::Deflate, &encode_page(2));
+    check_posted(rt, device, 2, true, true);
+    check_posted(rt, device, 3, false, false);
+    check_service(rt, device, &[2], &[2], 0);
+    check_posted(rt, device, 2, false, false);
 }
 
 // Inflates are served before deflates, whichever was posted first.
 #[test]
 fn inflates_first(rt: HostRuntime) -> Result<(), Fail> {
-    let mut device = Device::new(rt.alloc(), 4, 2)?;
-    check_post(&rt, &mut device, Queue::Inflate, &encode_page(2));
-    check_post(&rt, &mut device, Queue::Deflate, &encode_page(2));
-    check_posted(&rt, &device, 2, true, true);
-    check_posted(&rt, &device, 3, false, false);
-    check_service(&rt, &mut device, &[2], &[2], 0);
-    check_posted(&rt, &device, 2, false, false);
-
-    check_post(&rt, &mut device, Queue::Deflate, &encode_page(2));
-    check_post(&rt, &mut device, Queue::Inflate, &encode_page(2));
-    check_service(&rt, &mut device, &[2], &[2], 0);
-    check_len(&rt, &device, 0);
-    Ok(())
+    on_device(rt.alloc(), 4, 2, |device| {
+        check_posted_until_served(&rt, device);
+        check_post(&rt, device, Queue::Deflate, &encode_page(2));
+        check_post(&rt, device, Queue::Inflate, &encode_page(2));
+        check_service(&rt, device, &[2], &[2], 0);
+        check_len(&rt, device, 0);
+        Ok(())
+    })
 }
 
 #[test]
 fn no_page_in_it(rt: HostRuntime) -> Result<(), Fail> {
-    let mut device = Device::new(rt.alloc(), 4, 20)?;
-    check_post(&rt, &mut device, Queue::Inflate, &[255; 1024]);
-    check_service(&rt, &mut device, &[], &[], 256);
-    for queue in [Queue::Inflate, Queue::Deflate, Queue::Statistics] {
-        check_post(&rt, &mut device, queue, &[]);
-    }
-    check_service(&rt, &mut device, &[], &[], 0);
-    check_stats(&rt, &device, Stats::default());
-    Ok(())
+    on_device(rt.alloc(), 4, 20, |device| {
+        check_post(&rt, device, Queue::Inflate, &[255; 1024]);
+        check_service(&rt, device, &[], &[], 256);
+        for queue in [Queue::Inflate, Queue::Deflate, Queue::Statistics] {
+            check_post(&rt, device, queue, &[]);
+        }
+        check_service(&rt, device, &[], &[], 0);
+        check_stats(&rt, device, Stats::default());
+        Ok(())
+    })
 }
 
 #[test]
 fn early_use(rt: HostRuntime) -> Result<(), Fail> {
-    let mut device = Device::new(rt.alloc(), 4, 2)?;
-    use_early(&rt, &mut device);
-    check_len(&rt, &device, 0);
-    check_post(&rt, &mut device, Queue::Deflate, &encode_page(3));
-    check_service(&rt, &mut device, &[], &[3], 0);
-    check_place(&rt, &device, 3, false, false);
-    check_post(&rt, &mut device, Queue::Deflate, &encode_page(3));
-    check_service(&rt, &mut device, &[], &[], 1);
-    Ok(())
+    on_device(rt.alloc(), 4, 2, |device| {
+        use_early(&rt, device);
+        check_len(&rt, device, 0);
+        check_post(&rt, device, Queue::Deflate, &encode_page(3));
+        check_service(&rt, device, &[], &[3], 0);
+        check_place(&rt, device, 3, false, false);
+        check_post(&rt, device, Queue::Deflate, &encode_page(3));
+        check_service(&rt, device, &[], &[], 1);
+        Ok(())
+    })
 }
 
 // A page used early is outside the balloon, so an inflate of it is accepted, and its deflate then too.
 #[test]
 fn early_page_inflated(rt: HostRuntime) -> Result<(), Fail> {
-    let mut device = Device::new(rt.alloc(), 4, 2)?;
-    use_early(&rt, &mut device);
-    check_post(&rt, &mut device, Queue::Inflate, &encode_page(3));
-    check_posted(&rt, &device, 3, true, false);
-    check_post(&rt, &mut device, Queue::Deflate, &encode_page(3));
-    check_service(&rt, &mut device, &[3], &[3], 0);
-    check_len(&rt, &device, 0);
+    on_device(rt.alloc(), 4, 2, |device| {
+        use_early(&rt, device);
+        check_post(&rt, device, Queue::Inflate, &encode_page(3));
+        check_posted(&rt, device, 3, true, false);
+        check_post(&rt, device, Queue::Deflate, &encode_page(3));
+        check_service(&rt, device, &[3], &[3], 0);
+        check_len(&rt, device, 0);
 
-    // Early is empty after a service, so this deflate is none of a page used early.
-    check_post(&rt, &mut device, Queue::Deflate, &encode_page(3));
-    check_service(&rt, &mut device, &[], &[], 1);
-    Ok(())
+        // Early is empty after a service, so this deflate is none of a page used early.
+        check_post(&rt, device, Queue::Deflate, &encode_page(3));
+        check_service(&rt, device, &[], &[], 1);
+        Ok(())
+    })
 }
 
 // Asserts how a refusal reads.
@@ -282,49 +304,53 @@ fn refusals_read(rt: HostRuntime) -> Result<(), Fail> {
 // The tag 99 is none of the seven. What a buffer leaves out is forgotten, and where several came, the last counts.
 #[test]
 fn statistics(rt: HostRuntime) -> Result<(), Fail> {
-    let mut device = Device::new(rt.alloc(), 4, 2)?;
-    let total = [5, 0, 0, 0, 1, 0, 0, 0, 0, 0];
-    let free_unknown_total = [
-        4, 0, 0, 16, 0, 0, 0, 0, 0, 0, 99, 0, 1, 0, 0, 0, 0, 0, 0, 0, 5, 0, 0, 32, 0, 0, 0, 0, 0, 0,
-    ];
-    let mut want = Stats::default();
-    want.total = Some(65536);
-    check_report(&rt, &mut device, &total, want);
+    on_device(rt.alloc(), 4, 2, |device| {
+        let total = [5, 0, 0, 0, 1, 0, 0, 0, 0, 0];
+        let free_unknown_total = [
+            4, 0, 0, 16, 0, 0, 0, 0, 0, 0, 99, 0, 1, 0, 0, 0, 0, 0, 0, 0, 5, 0, 0, 32, 0, 0, 0, 0,
+            0, 0,
+        ];
+        let mut want = Stats::default();
+        want.total = Some(65536);
+        check_report(&rt, device, &total, want);
 
-    want.free = Some(4096);
-    want.total = Some(8192);
-    check_post(&rt, &mut device, Queue::Statistics, &total);
-    check_report(&rt, &mut device, &free_unknown_total, want);
-    Ok(())
+        want.free = Some(4096);
+        want.total = Some(8192);
+        check_post(&rt, device, Queue::Statistics, &total);
+        check_report(&rt, device, &free_unknown_total, want);
+        Ok(())
+    })
 }
 
 // A tag that comes twice takes the last value, and nine bytes are no entry.
 #[test]
 fn repeated_tags(rt: HostRuntime) -> Result<(), Fail> {
-    let mut device = Device::new(rt.alloc(), 4, 2)?;
-    let twice_and_a_rest = [
-        3, 0, 1, 0, 0, 0, 0, 0, 0, 0, 3, 0, 2, 0, 0, 0, 0, 0, 0, 0, 3, 0, 3, 0, 0, 0, 0, 0, 0,
-    ];
-    let mut faults = Stats::default();
-    faults.minor_faults = Some(2);
-    check_report(&rt, &mut device, &twice_and_a_rest, faults);
-    Ok(())
+    on_device(rt.alloc(), 4, 2, |device| {
+        let twice_and_a_rest = [
+            3, 0, 1, 0, 0, 0, 0, 0, 0, 0, 3, 0, 2, 0, 0, 0, 0, 0, 0, 0, 3, 0, 3, 0, 0, 0, 0, 0, 0,
+        ];
+        let mut faults = Stats::default();
+        faults.minor_faults = Some(2);
+        check_report(&rt, device, &twice_and_a_rest, faults);
+        Ok(())
+    })
 }
 
 // What was said last stands until more is said, also over services that find no statistics.
 #[test]
 fn statistics_stay(rt: HostRuntime) -> Result<(), Fail> {
-    let mut device = Device::new(rt.alloc(), 4, 2)?;
-    let mut want = Stats::default();
-    want.total = Some(9);
-    check_report(&rt, &mut device, &[5, 0, 9, 0, 0, 0, 0, 0, 0, 0], want);
-    check_service(&rt, &mut device, &[], &[], 0);
-    check_stats(&rt, &device, want);
-    want.total = Some(7);
-    check_report(&rt, &mut device, &[5, 0, 7, 0, 0, 0, 0, 0, 0, 0], want);
-    check_service(&rt, &mut device, &[], &[], 0);
-    check_stats(&rt, &device, want);
-    Ok(())
+    on_device(rt.alloc(), 4, 2, |device| {
+        let mut want = Stats::default();
+        want.total = Some(9);
+        check_report(&rt, device, &[5, 0, 9, 0, 0, 0, 0, 0, 0, 0], want);
+        check_service(&rt, device, &[], &[], 0);
+        check_stats(&rt, device, want);
+        want.total = Some(7);
+        check_report(&rt, device, &[5, 0, 7, 0, 0, 0, 0, 0, 0, 0], want);
+        check_service(&rt, device, &[], &[], 0);
+        check_stats(&rt, device, want);
+        Ok(())
+    })
 }
 
 #[test]
@@ -349,11 +375,12 @@ fn bytes(rt: HostRuntime) {
 
 #[test]
 fn configuration(rt: HostRuntime) -> Result<(), Fail> {
-    let mut device = Device::new(rt.alloc(), 4, 2)?;
-    check_config(&rt, &device, [0; 8]);
-    device.set_num_pages(258);
-    device.set_actual(3);
-    check_config(&rt, &device, [2, 1, 0, 0, 3, 0, 0, 0]);
-    assert_eq!(rt; (device.num_pages(), device.actual()), (258, 3));
-    Ok(())
+    on_device(rt.alloc(), 4, 2, |device| {
+        check_config(&rt, device, [0; 8]);
+        device.set_num_pages(258);
+        device.set_actual(3);
+        check_config(&rt, device, [2, 1, 0, 0, 3, 0, 0, 0]);
+        assert_eq!(rt; (device.num_pages(), device.actual()), (258, 3));
+        Ok(())
+    })
 }

@@ -1,7 +1,5 @@
 -- For callers: names and configurations, side by side.
-use Rattle.std.proofs.Common.{◌≡◌, ℕ, ◌+◌, Bool, true, false, List, [], ◌∷◌, ◌++◌, length, map, refl, sym, ap, ◌∙◌, arith, cond, Some}
-use Rattle.std.specs.Prelude.{Option}
-use Rattle.std.specs.List.{position_from}
+use Rattle.std.proofs.Common.{◌≡◌, ℕ, List, [], ◌∷◌, ◌++◌, length, refl, ap, arith}
 use Rattle.vm_guest.specs.Config.{GuestConfig}
 use Rattle.vm_domains.specs.Domains.{configs_of, domains_of, names_of}
 
@@ -30,11 +28,3 @@ domains_of-push [] (first ∷ configs) name config same = absurd (omega (arith, 
 domains_of-push (first ∷ names) [] name config same = absurd (omega (arith, same))
 domains_of-push (first ∷ names) (other ∷ configs) name config same =
     ap (λ rest. record { name = first; config = other } ∷ rest) (domains_of-push names configs name config (omega (arith, same)))
-
--- the first that is left passes, so it is the place
-pub position_here : {A : Type 0} (test : A → Bool) (place : ℕ) (x : A) (rest : List A) (whole : Option ℕ) → test x ≡ true → position_from test place (x ∷ rest) ≡ whole → Some place ≡ whole
-position_here test place x rest whole passes is = sym (ap (λ b. cond b (Some place) (position_from test (place + 1) rest)) passes) ∙ is
-
--- the first that is left doesn't pass, so the place is among the others
-pub position_next : {A : Type 0} (test : A → Bool) (place : ℕ) (x : A) (rest : List A) (whole : Option ℕ) → test x ≡ false → position_from test place (x ∷ rest) ≡ whole → position_from test (place + 1) rest ≡ whole
-position_next test place x rest whole fails is = sym (ap (λ b. cond b (Some place) (position_from test (place + 1) rest)) fails) ∙ is
