@@ -1,5 +1,5 @@
 //! Worked examples of the policy.
-ghost use Rattle.std.specs.Prelude.{◌≡◌, ◌≤◌};
+ghost use Rattle.std.specs.Prelude.{◌≡◌, ◌≤◌, All, length};
 
 mod limits;
 
@@ -68,6 +68,56 @@ fn check_moves(rt: &impl Abort, alloc: Global, plan: &Plan, positions: &[u32]) -
     Ok(())
 }
 
+/// Asserts which guests give up a frame in a state with so many free frames of 100.
+fn check_revoke(
+    rt: &impl Abort,
+    alloc: Global,
+    state: State,
+    free: u32,
+    tax: u32,
+    rows: &[PlanRow],
+    positions: &[u32],
+) -> Result<(), Fail>
+    requires few { length rows.now ≤ 256 }
+    requires tax { tax ≤ 9999 }
+    requires held { All (λ row. row.target ≤ row.held) rows.now }
+{
+    let thresholds = Thresholds::of(100, PERCENTS);
+    let plan = revoke(alloc, state, free, &thresholds, tax, rows)?;
+    check_moves(rt, alloc, &plan, positions)
+}
+
+/// Asserts which guests give up one of so many frames.
+fn check_revocations(
+    rt: &impl Abort,
+    alloc: Global,
+    wanted: u64,
+    rows: &[PlanRow],
+    positions: &[u32],
+) -> Result<(), Fail>
+    requires { length rows.now ≤ 256 }
+{
+    let plan = revocations(alloc, 7500, wanted, rows)?;
+    check_moves(rt, alloc, &plan, positions)
+}
+
+/// Asserts which guests get a frame in a state with so many free frames of 100.
+fn check_grant(
+    rt: &impl Abort,
+    alloc: Global,
+    state: State,
+    free: u32,
+    rows: &[PlanRow],
+    positions: &[u32],
+) -> Result<(), Fail>
+    requires few { length rows.now ≤ 256 }
+    requires held { All (λ row. row.target ≤ row.held) rows.now }
+{
+    let thresholds = Thresholds::of(100, PERCENTS);
+    let plan = grant(alloc, state, free, &thresholds, 7500, rows)?;
+    check_moves(rt, alloc, &plan, positions)
+}
+
 /// Asserts how many frames a guest gives up.
 fn check_count(rt: &impl Abort, state: State, row: &PlanRow, page_rate: u32, count: u32)
     requires { row.now.target ≤ row.now.held }
@@ -127,25 +177,19 @@ fn states_fall_at_once_and_rise_by_one(rt: HostRuntime) {
 
 #[test]
 fn idle_memory_is_taxed(rt: HostRuntime) -> Result<(), Fail> {
-    let thresholds = Thresholds::of(100, PERCENTS);
     let rows = [row(100, 10, 2, ALL_ACTIVE), row(100, 5, 2, 0)];
     assert_eq!(rt; least(7500, &rows), Some(1));
-    let plan = revoke(rt.alloc(), State::Soft, 3, &thresholds, 7500, &rows)?;
-    check_moves(&rt, rt.alloc(), &plan, &[1, 1, 1, 0])?;
+    check_revoke(&rt, rt.alloc(), State::Soft, 3, 7500, &rows, &[1, 1, 1, 0])?;
     // Untaxed, and then in High.
-    let plan = revoke(rt.alloc(), State::Soft, 3, &thresholds, 0, &rows)?;
-    check_moves(&rt, rt.alloc(), &plan, &[0, 0, 0, 0])?;
-    let plan = revoke(rt.alloc(), State::High, 3, &thresholds, 7500, &rows)?;
-    check_moves(&rt, rt.alloc(), &plan, &[])?;
+    check_revoke(&rt, rt.alloc(), State::Soft, 3, 0, &rows, &[0, 0, 0, 0])?;
+    check_revoke(&rt, rt.alloc(), State::High, 3, 7500, &rows, &[])?;
     Ok(())
 }
 
 #[test]
 fn equal_prices_go_to_the_lower_position(rt: HostRuntime) -> Result<(), Fail> {
-    let thresholds = Thresholds::of(100, PERCENTS);
     let rows = [row(100, 5, 1, ALL_ACTIVE), row(100, 5, 1, ALL_ACTIVE)];
-    let plan = revoke(rt.alloc(), State::Soft, 5, &thresholds, 7500, &rows)?;
-    check_moves(&rt, rt.alloc(), &plan, &[0, 1])?;
+    check_revoke(&rt, rt.alloc(), State::Soft, 5, 7500, &rows, &[0, 1])?;
     Ok(())
 }
 
@@ -158,67 +202,50 @@ fn nobody_is_taken_from_at_the_minimum(rt: HostRuntime) {
 
 #[test]
 fn revocation_ends_at_the_minimum(rt: HostRuntime) -> Result<(), Fail> {
-    let thresholds = Thresholds::of(100, PERCENTS);
     let rows = [row(100, 3, 2, ALL_ACTIVE)];
-    let plan = revoke(rt.alloc(), State::Low, 0, &thresholds, 7500, &rows)?;
-    check_moves(&rt, rt.alloc(), &plan, &[0])?;
+    check_revoke(&rt, rt.alloc(), State::Low, 0, 7500, &rows, &[0])?;
     Ok(())
 }
 
 #[test]
 fn grants_go_to_the_greatest_price(rt: HostRuntime) -> Result<(), Fail> {
-    let thresholds = Thresholds::of(100, PERCENTS);
     let first = [wanting(300, 5), wanting(100, 0)];
     let second = [wanting(300, 0), wanting(100, 5)];
-    let granted = grant(rt.alloc(), State::Soft, 3, &thresholds, 7500, &first)?;
-    check_moves(&rt, rt.alloc(), &granted, &[0])?;
-    let granted = grant(rt.alloc(), State::Soft, 3, &thresholds, 7500, &second)?;
-    check_moves(&rt, rt.alloc(), &granted, &[])?;
-    let granted = grant(rt.alloc(), State::High, 10, &thresholds, 7500, &first)?;
-    check_moves(&rt, rt.alloc(), &granted, &[0, 0, 0, 0, 0])?;
-    let granted = grant(rt.alloc(), State::Low, 10, &thresholds, 7500, &first)?;
-    check_moves(&rt, rt.alloc(), &granted, &[])?;
+    check_grant(&rt, rt.alloc(), State::Soft, 3, &first, &[0])?;
+    check_grant(&rt, rt.alloc(), State::Soft, 3, &second, &[])?;
+    check_grant(&rt, rt.alloc(), State::High, 10, &first, &[0, 0, 0, 0, 0])?;
+    check_grant(&rt, rt.alloc(), State::Low, 10, &first, &[])?;
     Ok(())
 }
 
 #[test]
 fn equal_prices_go_on_growing(rt: HostRuntime) -> Result<(), Fail> {
-    let thresholds = Thresholds::of(100, PERCENTS);
     let equal = [wanting(110, 5), wanting(100, 0)];
     let below = [wanting(109, 5), wanting(100, 0)];
-    let granted = grant(rt.alloc(), State::Soft, 3, &thresholds, 7500, &equal)?;
-    check_moves(&rt, rt.alloc(), &granted, &[0])?;
-    let granted = grant(rt.alloc(), State::Soft, 3, &thresholds, 7500, &below)?;
-    check_moves(&rt, rt.alloc(), &granted, &[])?;
+    check_grant(&rt, rt.alloc(), State::Soft, 3, &equal, &[0])?;
+    check_grant(&rt, rt.alloc(), State::Soft, 3, &below, &[])?;
     Ok(())
 }
 
 #[test]
 fn free_frames_are_asked_for_where_none_moves(rt: HostRuntime) -> Result<(), Fail> {
-    let thresholds = Thresholds::of(100, PERCENTS);
     let mut above = wanting(100, 5);
     above.held = 15;
     let rows = [above];
-    let granted = grant(rt.alloc(), State::High, 4, &thresholds, 7500, &rows)?;
-    check_moves(&rt, rt.alloc(), &granted, &[])?;
-    let granted = grant(rt.alloc(), State::High, 5, &thresholds, 7500, &rows)?;
-    check_moves(&rt, rt.alloc(), &granted, &[0, 0, 0, 0, 0])?;
+    check_grant(&rt, rt.alloc(), State::High, 4, &rows, &[])?;
+    check_grant(&rt, rt.alloc(), State::High, 5, &rows, &[0, 0, 0, 0, 0])?;
     Ok(())
 }
 
 #[test]
 fn grants_stop_at_the_cap_and_at_the_threshold(rt: HostRuntime) -> Result<(), Fail> {
-    let thresholds = Thresholds::of(100, PERCENTS);
     let mut capped = wanting(100, 5);
     capped.cap = 12;
-    let granted = grant(rt.alloc(), State::High, 90, &thresholds, 7500, &[capped])?;
-    check_moves(&rt, rt.alloc(), &granted, &[0, 0])?;
+    check_grant(&rt, rt.alloc(), State::High, 90, &[capped], &[0, 0])?;
     let rows = [wanting(300, 5), wanting(100, 0)];
-    let granted = grant(rt.alloc(), State::Hard, 3, &thresholds, 7500, &rows)?;
-    check_moves(&rt, rt.alloc(), &granted, &[0, 0])?;
+    check_grant(&rt, rt.alloc(), State::Hard, 3, &rows, &[0, 0])?;
     // Without a rival.
-    let granted = grant(rt.alloc(), State::Hard, 3, &thresholds, 7500, &[rows[0]])?;
-    check_moves(&rt, rt.alloc(), &granted, &[])?;
+    check_grant(&rt, rt.alloc(), State::Hard, 3, &[rows[0]], &[])?;
     Ok(())
 }
 
@@ -239,28 +266,22 @@ fn pages_are_counted(rt: HostRuntime) {
 #[test]
 fn so_many_pages_are_taken(rt: HostRuntime) -> Result<(), Fail> {
     let rows = [row(100, 10, 2, ALL_ACTIVE), row(100, 5, 2, 0)];
-    let plan = revocations(rt.alloc(), 7500, 4, &rows)?;
-    check_moves(&rt, rt.alloc(), &plan, &[1, 1, 1, 0])?;
+    check_revocations(&rt, rt.alloc(), 4, &rows, &[1, 1, 1, 0])?;
     // None are wanted.
-    let plan = revocations(rt.alloc(), 7500, 0, &rows)?;
-    check_moves(&rt, rt.alloc(), &plan, &[])?;
+    check_revocations(&rt, rt.alloc(), 0, &rows, &[])?;
     let plan = revocations(rt.alloc(), 7500, u64::MAX, &rows)?;
     assert_eq!(rt; plan.moves().count(), 11, "all are wanted");
     // Without guests.
-    let plan = revocations(rt.alloc(), 7500, 3, &[])?;
-    check_moves(&rt, rt.alloc(), &plan, &[])?;
+    check_revocations(&rt, rt.alloc(), 3, &[], &[])?;
     Ok(())
 }
 
 #[test]
 fn the_greatest_demand_is_served_to_the_cap(rt: HostRuntime) -> Result<(), Fail> {
-    let thresholds = Thresholds::of(100, PERCENTS);
     let rows = [wanting(100, 0), wanting(100, u64::MAX)];
-    let plan = grant(rt.alloc(), State::High, 90, &thresholds, 7500, &rows)?;
-    check_moves(&rt, rt.alloc(), &plan, &[1; 10])?;
+    check_grant(&rt, rt.alloc(), State::High, 90, &rows, &[1; 10])?;
     // Without guests.
-    let plan = grant(rt.alloc(), State::High, 90, &thresholds, 7500, &[])?;
-    check_moves(&rt, rt.alloc(), &plan, &[])?;
+    check_grant(&rt, rt.alloc(), State::High, 90, &[], &[])?;
     Ok(())
 }
 

@@ -1,6 +1,7 @@
 // Frames of a machine.
 ghost use Rattle.std.specs.Prelude.{◌≡◌, ◌<◌};
 
+use super::check_eq;
 use vm_frames::{Frame, Machine, PAGE_BYTES};
 
 // Writes a byte.
@@ -17,12 +18,12 @@ fn a_frame_keeps_its_bytes(rt: HostRuntime) {
     let mut machine = Machine::new(rt.alloc(), 1).expect(&rt, "memory");
     let mut frame = machine.take().expect(&rt, "a free frame");
     let number = frame.number();
-    assert_eq!(rt; *frame.bytes(), [0; PAGE_BYTES]);
+    check_eq(&rt, *frame.bytes(), [0; PAGE_BYTES]);
     put_byte(&mut frame, 7, 9);
-    assert_eq!(rt; frame.bytes()[7], 9);
+    check_eq(&rt, frame.bytes()[7], 9);
     frame.zero();
-    assert_eq!(rt; *frame.bytes(), [0; PAGE_BYTES]);
-    assert_eq!(rt; frame.number(), number);
+    check_eq(&rt, *frame.bytes(), [0; PAGE_BYTES]);
+    check_eq(&rt, frame.number(), number);
     machine.give(frame);
     machine.close();
 }
@@ -33,11 +34,11 @@ fn each_frame_is_taken_once(rt: HostRuntime) {
     let mut machine = Machine::new(rt.alloc(), 2).expect(&rt, "memory");
     let first = machine.take().expect(&rt, "a free frame");
     let second = machine.take().expect(&rt, "a free frame");
-    assert_eq!(rt; machine.total(), 2);
-    assert_ne!(rt; first.number(), second.number());
-    assert_eq!(rt; machine.free(), 0);
+    check_eq(&rt, machine.total(), 2);
+    check_eq(&rt, first.number() == second.number(), false);
+    check_eq(&rt, machine.free(), 0);
     machine.give(second);
-    assert_eq!(rt; machine.free(), 1);
+    check_eq(&rt, machine.free(), 1);
     machine.give(first);
     assert_eq!(rt; machine.free(), 2);
     machine.close();

@@ -1,4 +1,5 @@
 // JSON values and what is read from them.
+use super::check_eq;
 use std::alloc::Global;
 use std::process::Abort;
 use std::test::Fail;
@@ -11,6 +12,19 @@ use vm_json::{
 fn refusal(alloc: Global, bytes: &[u8]) -> Option<ReadError> {
     let mut scratch = Scratch::new(alloc);
     read(alloc, bytes, &mut scratch).err()
+}
+
+// Asserts which whole number from 0 on a text is.
+fn check_whole(
+    rt: &impl Abort,
+    alloc: Global,
+    number: &str,
+    wanted: Option<u64>,
+) -> Result<(), Fail> {
+    let mut scratch = Scratch::new(alloc);
+    let value = read(alloc, number.as_bytes(), &mut scratch)?;
+    assert_eq!(rt; whole(&value), wanted, "{number}");
+    Ok(())
 }
 
 #[test]
@@ -28,9 +42,7 @@ fn reads_numbers(rt: HostRuntime) -> Result<(), Fail> {
         ("\"1\"", None),
     ];
     for (number, wanted) in numbers {
-        let mut scratch = Scratch::new(rt.alloc());
-        let value = read(rt.alloc(), number.as_bytes(), &mut scratch)?;
-        assert_eq!(rt; whole(&value), wanted, "{number}");
+        check_whole(&rt, rt.alloc(), number, wanted)?;
     }
     Ok(())
 }
@@ -49,7 +61,7 @@ fn refuses_what_is_no_value(rt: HostRuntime) {
         b"\"\\ud83d\"",
     ];
     for bytes in texts {
-        assert_eq!(rt; refusal(rt.alloc(), bytes), Some(ReadError::NotJson));
+        check_eq(&rt, refusal(rt.alloc(), bytes), Some(ReadError::NotJson));
     }
 }
 
@@ -63,7 +75,7 @@ fn arrays_nest_127_deep(rt: HostRuntime) -> Result<(), Fail> {
         for _ in 0..depth {
             nested.push(']')?;
         }
-        assert_eq!(rt; refusal(rt.alloc(), nested.as_bytes()), wanted);
+        check_eq(&rt, refusal(rt.alloc(), nested.as_bytes()), wanted);
     }
     Ok(())
 }
@@ -76,18 +88,16 @@ fn last_member_of_a_name_counts(rt: HostRuntime) -> Result<(), Fail> {
         b"{\"a\":1,\"b\":true,\"\\u0061\":2,\"c\":null}",
         &mut scratch,
     )?;
-    assert!(rt; is_object(&object));
-    assert_eq!(rt;
-        member(&object, "a").and_then(|value| whole(value)),
+    check_eq(&rt, is_object(&object), true);
+    check_eq(&rt, member(&object, "a").and_then(|value| whole(value)),
         Some(2)
     );
-    assert_eq!(rt;
-        member(&object, "b").and_then(|value| truth(value)),
+    check_eq(&rt, member(&object, "b").and_then(|value| truth(value)),
         Some(true)
     );
-    assert!(rt; member(&object, "d").is_none());
+    check_eq(&rt, member(&object, "d").is_none(), true);
     let taken = take_member(object, "a");
-    assert_eq!(rt; taken.as_ref().and_then(|value| whole(value)), Some(2));
+    check_eq(&rt, taken.as_ref().and_then(|value| whole(value)), Some(2));
     Ok(())
 }
 
@@ -107,7 +117,7 @@ fn texts_lose_their_escapes(rt: HostRuntime) -> Result<(), Fail> {
         &mut scratch,
     )?;
     let seen = items(&array).map(|values| values.len());
-    assert_eq!(rt; seen, Some(3));
+    check_eq(&rt, seen, Some(3));
     let Some(values) = into_items(array) else {
         return Err(Fail::new("an array"));
     };

@@ -1,9 +1,18 @@
 // Sets of pages.
 ghost use Rattle.std.specs.Prelude.{◌≡◌, ◌≤◌, vec_capacity};
 
+use super::check_eq;
 use std::process::Abort;
 use std::test::Fail;
 use vm_pages::PageSet;
+
+// Asserts which pages a set has, least first.
+fn check_pages(rt: &impl Abort, set: &PageSet, pages: &[u32]) {
+    assert_eq!(rt; set.len() as usize, pages.len());
+    for place in 0..set.len() {
+        assert_eq!(rt; set.nth(place), pages[place as usize]);
+    }
+}
 
 // Asserts which the greatest pages of a set are.
 fn check_greatest(rt: &impl Abort, set: &PageSet, most: u32, pages: &mut Vec<u32>, want: &[u32])
@@ -26,31 +35,26 @@ fn check_least(rt: &impl Abort, set: &PageSet, most: u32, pages: &mut Vec<u32>, 
 #[test]
 fn pages_are_listed_in_order(rt: HostRuntime) -> Result<(), Fail> {
     let mut set = PageSet::new(rt.alloc(), 600)?;
-    assert!(rt; set.is_empty());
-    assert!(rt; set.insert(599));
-    assert!(rt; set.insert(0));
-    assert!(rt; set.insert(256));
-    assert!(rt; set.insert(255));
-    assert_eq!(rt; set.len(), 4);
-    assert_eq!(rt;
-        [set.nth(0), set.nth(1), set.nth(2), set.nth(3)],
-        [0, 255, 256, 599]
-    );
-    assert!(rt; !set.insert(0));
-    assert!(rt; set.remove(255));
-    assert!(rt; set.contains(256));
-    assert_eq!(rt; set.len(), 3);
-    assert_eq!(rt; set.nth(1), 256);
+    check_eq(&rt, set.is_empty(), true);
+    check_eq(&rt, set.insert(599), true);
+    check_eq(&rt, set.insert(0), true);
+    check_eq(&rt, set.insert(256), true);
+    check_eq(&rt, set.insert(255), true);
+    check_pages(&rt, &set, &[0, 255, 256, 599]);
+    check_eq(&rt, set.insert(0), false);
+    check_eq(&rt, set.remove(255), true);
+    check_eq(&rt, set.contains(256), true);
+    check_pages(&rt, &set, &[0, 256, 599]);
     Ok(())
 }
 
 #[test]
 fn extremes_are_listed_over_blocks(rt: HostRuntime) -> Result<(), Fail> {
     let mut set = PageSet::new(rt.alloc(), 600)?;
-    assert!(rt; set.insert(256));
-    assert!(rt; set.insert(0));
-    assert!(rt; set.insert(599));
-    assert!(rt; set.insert(255));
+    check_eq(&rt, set.insert(256), true);
+    check_eq(&rt, set.insert(0), true);
+    check_eq(&rt, set.insert(599), true);
+    check_eq(&rt, set.insert(255), true);
     let mut pages = Vec::with_capacity(rt.alloc(), 8)?;
     check_greatest(&rt, &set, 3, &mut pages, &[599, 256, 255]);
     check_least(&rt, &set, 2, &mut pages, &[0, 255]);

@@ -1,6 +1,7 @@
 // Words, and samplers by the fraction that they tell.
 ghost use Rattle.std.specs.Prelude.{◌≡◌, ◌<◌};
 
+use super::check_eq;
 use std::process::Abort;
 use std::test::Fail;
 use vm_sampling::{Sampler, Words};
@@ -36,10 +37,10 @@ fn picks(rt: HostRuntime) {
     let mut fours = Words::new(42, 54);
     let mut halves = Words::new(42, 54);
     for (of_four, of_two) in [(2, 1), (1, 0), (2, 1), (2, 1), (2, 1), (3, 1)] {
-        assert_eq!(rt; fours.pick(4), of_four);
-        assert_eq!(rt; halves.pick(2), of_two);
+        check_eq(&rt, fours.pick(4), of_four);
+        check_eq(&rt, halves.pick(2), of_two);
     }
-    assert_eq!(rt; Words::new(42, 54).pick(1), 0);
+    check_eq(&rt, Words::new(42, 54).pick(1), 0);
 }
 
 // Asserts the fraction in active use.
@@ -106,7 +107,7 @@ fn words_of_others(rt: HostRuntime) -> Result<(), Fail> {
     let mut words = Words::new(42, 54);
     let mut sampler = Sampler::new(rt.alloc(), 2, 1, 4, &mut words)?;
     idle_steps(&mut sampler, 1, &mut words);
-    assert_eq!(rt; words.pick(4), 2);
+    check_eq(&rt, words.pick(4), 2);
     touched_step(&mut sampler, 2, &mut words);
     assert_active(&rt, &sampler, 58368);
     Ok(())
