@@ -1,6 +1,13 @@
 // The table of steps and faults, and a trace.
+use std::fmt::Debug;
+use std::process::Abort;
 use std::test::Fail;
 use vm_trace::{Action, Bytes, Queue, Trace, TraceError, parse_step, parse_step_within};
+
+// Asserts that both are the same. It stands here once, since what says how two values differ is proved wherever it stands.
+fn check_eq<T: Copy + Debug + PartialEq>(rt: &impl Abort, found: T, wanted: T) {
+    assert_eq!(rt; found, wanted);
+}
 
 #[test]
 fn first_faults(rt: HostRuntime) {
@@ -42,21 +49,25 @@ fn first_faults(rt: HostRuntime) {
 
 #[test]
 fn steps_are_read(rt: HostRuntime) -> Result<(), Fail> {
-    assert_eq!(rt; parse_step("i")?.action(), Action::Idle);
-    assert_eq!(rt; parse_step("f 0")?.action(), Action::Free { page: 0 });
+    check_eq(&rt, parse_step("i")?.action(), Action::Idle);
+    check_eq(&rt, parse_step("f 0")?.action(), Action::Free { page: 0 });
     let read = Action::Read {
         page: 65535,
         offset: 4080,
         len: 16,
     };
-    assert_eq!(rt; parse_step("r 0000065535 4080 16")?.action(), read);
+    check_eq(&rt, parse_step("r 0000065535 4080 16")?.action(), read);
     let last_page = Action::Free { page: 262143 };
-    assert_eq!(rt; parse_step_within("f 262143", 262144)?.action(), last_page);
+    check_eq(
+        &rt,
+        parse_step_within("f 262143", 262144)?.action(),
+        last_page,
+    );
     let Action::Post { queue, bytes } = parse_step("p d 03000000")?.action() else {
         return Err(Fail::from("no post"));
     };
-    assert_eq!(rt; queue, Queue::Deflate);
-    assert_eq!(rt; bytes.as_slice(), [3, 0, 0, 0].as_slice());
+    check_eq(&rt, queue, Queue::Deflate);
+    check_eq(&rt, bytes.as_slice(), [3, 0, 0, 0].as_slice());
     Ok(())
 }
 
@@ -67,32 +78,32 @@ fn writes_are_read(rt: HostRuntime) -> Result<(), Fail> {
         offset: 0,
         bytes: Bytes::from_slice(&[0xff, 0xfe]),
     };
-    assert_eq!(rt; parse_step("w 0 0 FFfe")?.action(), two);
+    check_eq(&rt, parse_step("w 0 0 FFfe")?.action(), two);
     let last = Action::Write {
         page: 0,
         offset: 4095,
         bytes: Bytes::from_slice(&[0xff]),
     };
-    assert_eq!(rt; parse_step("w 0 4095 ff")?.action(), last);
+    check_eq(&rt, parse_step("w 0 4095 ff")?.action(), last);
     Ok(())
 }
 
 #[test]
 fn pages_are_compared(rt: HostRuntime) -> Result<(), Fail> {
-    assert!(rt; parse_step("f 7")?.is_within(8));
-    assert!(rt; !parse_step("f 7")?.is_within(7));
-    assert!(rt; !parse_step("w 7 0 ff")?.is_within(7));
-    assert!(rt; parse_step("p i 07000000")?.is_within(1));
+    check_eq(&rt, parse_step("f 7")?.is_within(8), true);
+    check_eq(&rt, parse_step("f 7")?.is_within(7), false);
+    check_eq(&rt, parse_step("w 7 0 ff")?.is_within(7), false);
+    check_eq(&rt, parse_step("p i 07000000")?.is_within(1), true);
     Ok(())
 }
 
 #[test]
 fn bytes_lie_in_place(rt: HostRuntime) {
     let bytes = Bytes::from_slice(&[1, 2, 3]);
-    assert_eq!(rt; bytes.len(), 3);
-    assert_eq!(rt; bytes.as_slice(), [1, 2, 3].as_slice());
-    assert!(rt; !bytes.is_empty());
-    assert!(rt; Bytes::from_slice(&[]).is_empty());
+    check_eq(&rt, bytes.len(), 3);
+    check_eq(&rt, bytes.as_slice(), [1, 2, 3].as_slice());
+    check_eq(&rt, bytes.is_empty(), false);
+    check_eq(&rt, Bytes::from_slice(&[]).is_empty(), true);
 }
 
 #[test]
@@ -102,25 +113,25 @@ fn posts_have_at_most_64_bytes(rt: HostRuntime) -> Result<(), Fail> {
     for _ in 0..64 {
         text.push_str("ff")?;
     }
-    assert!(rt; parse_step(text.as_str()).is_ok());
+    check_eq(&rt, parse_step(text.as_str()).is_ok(), true);
     text.push_str("ff")?;
-    assert_eq!(rt; parse_step(text.as_str()), Err(TraceError::Length));
+    check_eq(&rt, parse_step(text.as_str()), Err(TraceError::Length));
     Ok(())
 }
 
 #[test]
 fn traces_keep_their_order(rt: HostRuntime) -> Result<(), Fail> {
     let mut trace = Trace::new(rt.alloc());
-    assert!(rt; trace.is_empty());
+    check_eq(&rt, trace.is_empty(), true);
     let free = parse_step("f 3")?;
     let idle = parse_step("i")?;
     trace.push(free)?;
     trace.push(idle)?;
-    assert!(rt; !trace.is_empty());
-    assert_eq!(rt; trace.len(), 2);
-    assert_eq!(rt; trace.step(0), Some(free));
-    assert_eq!(rt; trace.step(1), Some(idle));
-    assert_eq!(rt; trace.step(2), None);
+    check_eq(&rt, trace.is_empty(), false);
+    check_eq(&rt, trace.len(), 2);
+    check_eq(&rt, trace.step(0), Some(free));
+    check_eq(&rt, trace.step(1), Some(idle));
+    check_eq(&rt, trace.step(2), None);
     Ok(())
 }
 
@@ -136,19 +147,27 @@ fn traces_keep_the_bytes_of_each_step(rt: HostRuntime) -> Result<(), Fail> {
         "p d 03000000",
     ];
     let mut trace = Trace::with_capacity(rt.alloc(), 2)?;
-    assert!(rt; trace.is_empty());
+    check_eq(&rt, trace.is_empty(), true);
     for text in texts {
         trace.push(parse_step_within(text, 262144)?)?;
     }
-    assert_eq!(rt; trace.len(), 7);
+    check_eq(&rt, trace.len(), 7);
     let last_byte = Action::Write {
         page: 0,
         offset: 4095,
         bytes: Bytes::from_slice(&[0xff]),
     };
-    assert_eq!(rt; trace.step(3).map(|step| step.action()), Some(last_byte));
+    check_eq(
+        &rt,
+        trace.step(3).map(|step| step.action()),
+        Some(last_byte),
+    );
     for (place, text) in texts.iter().enumerate() {
-        assert_eq!(rt; trace.step(place), Some(parse_step_within(text, 262144)?));
+        check_eq(
+            &rt,
+            trace.step(place),
+            Some(parse_step_within(text, 262144)?),
+        );
     }
     Ok(())
 }
