@@ -2,6 +2,7 @@
 ghost use Rattle.std.specs.Prelude.{◌≡◌, ◌≤◌, ◌+◌, All, OnOk, length, vec_len};
 ghost use Rattle.vm_trace.specs.Limits.{IsStep, IsWithin};
 
+use std::fmt::Debug;
 use std::process::Abort;
 use std::sync::atomic::{AtomicU64, Ordering};
 use std::test::Fail;
@@ -9,6 +10,11 @@ use std::thread::Threads;
 use std::{array, thread};
 use vm_pool::{Gate, GuestSpec, Open, PageRead, Pool};
 use vm_trace::{Bytes, Trace, parse_step_within};
+
+// Asserts that both are the same. It stands here once, since what says how two values differ is proved wherever it stands.
+fn check_eq<T: Copy + Debug + PartialEq>(rt: &impl Abort, found: T, wanted: T) {
+    assert_eq!(rt; found, wanted);
+}
 
 // Adds a step of a guest of this size to a trace that has few.
 fn add_step(trace: &mut Trace, size: u32, text: &str) -> Result<(), Fail>
@@ -134,6 +140,18 @@ fn set_min(rt: &impl Abort, pool: &mut Pool, position: usize, least: u32) {
     assert!(rt; sets_min(rt, pool, position, least));
 }
 
+// Stops a guest that runs.
+fn stop(rt: &impl Abort, pool: &mut Pool, position: usize) {
+    assert!(rt; pool.is_running(position));
+    pool.stop(position);
+}
+
+// Gives a guest half of the 1000 shares that it starts with.
+fn halve_shares(rt: &impl Abort, pool: &mut Pool, position: usize) {
+    assert!(rt; position < pool.len());
+    pool.set_shares(position, 500);
+}
+
 // Serves all guests, takes their spares back, and lets them run.
 fn run(
     rt: &(impl AllocGlobal + Abort + Threads + Sync),
@@ -152,23 +170,29 @@ fn run(
 #[test]
 fn frames_move_and_add_up(rt: HostRuntime) -> Result<(), Fail> {
     let mut pool = two_guests(&rt, 1)?;
-    assert_eq!(rt;
+    check_eq(
+        &rt,
         (
             pool.len(),
             pool.frames(),
             pool.free(),
-            pool.overhead_frames()
+            pool.overhead_frames(),
         ),
-        (2, 20, 20, 0)
+        (2, 20, 20, 0),
     );
-    assert!(rt; !pool.is_running(0) && pool.view(0).is_none() && pool.reserve(0).is_none());
+    check_eq(
+        &rt,
+        !pool.is_running(0) && pool.view(0).is_none() && pool.reserve(0).is_none(),
+        true,
+    );
     start(&rt, &mut pool, 0);
     start(&rt, &mut pool, 1);
-    assert!(rt; pool.is_running(0) && pool.stopped(0).is_none());
-    assert_eq!(rt; (pool.free(), pool.overhead_frames()), (10, 2));
-    assert_eq!(rt;
+    check_eq(&rt, pool.is_running(0) && pool.stopped(0).is_none(), true);
+    check_eq(&rt, (pool.free(), pool.overhead_frames()), (10, 2));
+    check_eq(
+        &rt,
         (frames_of(&pool, 0), pool.reserve(0)),
-        (Some((4, 4)), Some(4))
+        (Some((4, 4)), Some(4)),
     );
 
     grant(&rt, &mut pool, 0);
@@ -176,19 +200,22 @@ fn frames_move_and_add_up(rt: HostRuntime) -> Result<(), Fail> {
     take_back(&rt, &mut pool, 0);
     check_frames(&rt, &pool, (4, 4), 10);
     set_min(&rt, &mut pool, 0, 7);
-    assert_eq!(rt;
+    check_eq(
+        &rt,
         (frames_of(&pool, 0), pool.free(), pool.reserve(0)),
-        (Some((7, 7)), 7, Some(4))
+        (Some((7, 7)), 7, Some(4)),
     );
     set_min(&rt, &mut pool, 0, 2);
-    assert_eq!(rt;
+    check_eq(
+        &rt,
         (frames_of(&pool, 0), pool.free(), pool.reserve(0)),
-        (Some((7, 7)), 7, Some(6))
+        (Some((7, 7)), 7, Some(6)),
     );
-    pool.stop(0);
-    assert_eq!(rt;
+    stop(&rt, &mut pool, 0);
+    check_eq(
+        &rt,
         (pool.free(), pool.overhead_frames(), pool.view(0)),
-        (15, 1, None)
+        (15, 1, None),
     );
     pool.close();
     Ok(())
@@ -205,16 +232,17 @@ fn a_guest_above_its_target_waits(rt: HostRuntime) -> Result<(), Fail> {
     set_cap(&rt, &mut pool, 0, 5);
     check_frames(&rt, &pool, (5, 6), 8);
     pool.order_all(true);
-    assert_eq!(rt;
+    check_eq(
+        &rt,
         (is_blocked(&pool, 0), is_blocked(&pool, 1)),
-        (Some(true), Some(false))
+        (Some(true), Some(false)),
     );
     run(&rt, &Open, 2, &mut pool);
-    assert_eq!(rt; (done(&pool, 0), pool.free()), (Some(0), 9));
+    check_eq(&rt, (done(&pool, 0), pool.free()), (Some(0), 9));
     pool.order_all(true);
     check_blocked(&rt, &pool, false);
     run(&rt, &Open, 2, &mut pool);
-    assert_eq!(rt; done(&pool, 0), Some(1));
+    check_eq(&rt, done(&pool, 0), Some(1));
     pool.close();
     Ok(())
 }
@@ -232,12 +260,13 @@ fn all_guests_at_once(rt: HostRuntime) -> Result<(), Fail> {
     check_blocked(&rt, &pool, false);
     release_first(&rt, &mut pool);
     check_frames(&rt, &pool, (4, 4), 12);
-    assert_eq!(rt;
+    check_eq(
+        &rt,
         (frames_of(&pool, 1), pool.stats(1).is_some()),
-        (Some((4, 4)), true)
+        (Some((4, 4)), true),
     );
-    pool.set_shares(1, 500);
-    assert_eq!(rt; pool.view(1).expect(&rt, "it runs").shares, 500);
+    halve_shares(&rt, &mut pool, 1);
+    check_eq(&rt, pool.view(1).expect(&rt, "it runs").shares, 500);
     pool.close();
     Ok(())
 }
@@ -294,7 +323,11 @@ fn two_tickets_at_once(rt: HostRuntime) -> Result<(), Fail> {
     start(&rt, &mut pool, 1);
     let gate = nobody_met();
     run(&rt, &gate, 2, &mut pool);
-    assert!(rt; gate.met[0].load(Ordering::SeqCst) == 1 && gate.met[1].load(Ordering::SeqCst) == 1);
+    check_eq(
+        &rt,
+        gate.met[0].load(Ordering::SeqCst) == 1 && gate.met[1].load(Ordering::SeqCst) == 1,
+        true,
+    );
     check_done(&rt, &pool, [1, 0]);
     pool.close();
     Ok(())
@@ -348,11 +381,11 @@ fn one_worker_serves_in_order(rt: HostRuntime) -> Result<(), Fail> {
     start(&rt, &mut pool, 1);
     let alone = no_passages();
     run(&rt, &alone, 1, &mut pool);
-    assert_eq!(rt; passed(&alone), [1, 2, 0, 0]);
+    check_eq(&rt, passed(&alone), [1, 2, 0, 0]);
     start(&rt, &mut pool, 0);
     let both = no_passages();
     run(&rt, &both, 1, &mut pool);
-    assert_eq!(rt; passed(&both), [1, 2, 3, 4]);
+    check_eq(&rt, passed(&both), [1, 2, 3, 4]);
     check_done(&rt, &pool, [1, 0]);
     pool.close();
     Ok(())
@@ -366,7 +399,7 @@ fn one_ticket_at_a_time(rt: HostRuntime) -> Result<(), Fail> {
     start(&rt, &mut pool, 1);
     let gate = nobody_met();
     run(&rt, &gate, 1, &mut pool);
-    assert_eq!(rt; gate.met[0].load(Ordering::SeqCst), 0);
+    check_eq(&rt, gate.met[0].load(Ordering::SeqCst), 0);
     pool.close();
     Ok(())
 }
@@ -383,11 +416,15 @@ fn the_others_wait(rt: HostRuntime) -> Result<(), Fail> {
         offset: 0,
         bytes: Bytes::from_slice(&[0x0a, 0]),
     };
-    assert_eq!(rt; pool.reads(0), Some([read].as_slice()));
-    assert_eq!(rt; (pool.reads(1), done(&pool, 0)), (None, Some(2)));
+    check_eq(&rt, pool.reads(0), Some([read].as_slice()));
+    check_eq(&rt, (pool.reads(1), done(&pool, 0)), (None, Some(2)));
     let mut bytes = [7; 4096];
-    assert!(rt; pool.peek(0, 0, &mut bytes) && bytes[0] == 0x0a);
-    assert!(rt; !pool.peek(0, 8, &mut bytes) && !pool.peek(1, 0, &mut bytes));
+    check_eq(&rt, pool.peek(0, 0, &mut bytes) && bytes[0] == 0x0a, true);
+    check_eq(
+        &rt,
+        !pool.peek(0, 8, &mut bytes) && !pool.peek(1, 0, &mut bytes),
+        true,
+    );
     pool.close();
     Ok(())
 }
@@ -420,6 +457,15 @@ fn runs(rt: &(impl AllocGlobal + Threads + Sync), pool: &mut Pool) -> bool {
     pool.epoch(rt, rt.alloc(), &Open, 2).is_ok()
 }
 
+// Where an epoch of the first guest lacked memory, no step was done, and where a lower minimum did, the reserve is as before.
+fn check_refusals(rt: &(impl AllocGlobal + Abort + Threads + Sync), pool: &mut Pool) {
+    let ran = runs(rt, pool);
+    assert_eq!(rt; done(pool, 0), Some(u32::from(ran)));
+    assert!(rt; sets_min(rt, pool, 0, 5));
+    let set = sets_min(rt, pool, 0, 2);
+    assert_eq!(rt; pool.reserve(0), Some(if set { 6 } else { 4 }));
+}
+
 // At each request for memory that fails in turn, the call that made it changes nothing. A raised minimum makes none.
 #[test]
 fn where_memory_is_refused_nothing_changes(rt: HostRuntime) -> Result<(), Fail> {
@@ -428,11 +474,7 @@ fn where_memory_is_refused_nothing_changes(rt: HostRuntime) -> Result<(), Fail> 
     assert_eq!(rt; pool.is_running(0), started);
     assert_eq!(rt; pool.free(), if started { 15 } else { 20 });
     if started {
-        let ran = runs(&rt, &mut pool);
-        assert_eq!(rt; done(&pool, 0), Some(u32::from(ran)));
-        assert!(rt; sets_min(&rt, &mut pool, 0, 5));
-        let set = sets_min(&rt, &mut pool, 0, 2);
-        assert_eq!(rt; pool.reserve(0), Some(if set { 6 } else { 4 }));
+        check_refusals(&rt, &mut pool);
     }
     pool.close();
     Ok(())

@@ -9,41 +9,52 @@ fn check_eq<T: Copy + Debug + PartialEq>(rt: &impl Abort, found: T, wanted: T) {
     assert_eq!(rt; found, wanted);
 }
 
-#[test]
-fn first_faults(rt: HostRuntime) {
-    for (text, fault) in [
-        ("", TraceError::Unknown),
-        ("x 1", TraceError::Unknown),
-        ("r 0 0", TraceError::Unknown),
-        ("p q 00", TraceError::Unknown),
-        ("r  0 0 1", TraceError::Unknown),
-        (" i", TraceError::Unknown),
-        ("p i ", TraceError::Unknown),
-        ("f", TraceError::Unknown),
-        ("r a 0 1 2", TraceError::Unknown),
-        ("r a 0 1", TraceError::Number),
-        ("r 00000000000 0 1", TraceError::Number),
-        ("r +1 0 1", TraceError::Number),
-        ("r 65536 0 1", TraceError::Range),
-        ("r 4294967296 0 1", TraceError::Range),
-        ("r 0 4096 1", TraceError::Range),
-        ("r 0 0 17", TraceError::Range),
-        ("r 0 0 0", TraceError::Range),
-        ("r 0 4095 2", TraceError::Range),
-        ("w 65536 0 fg", TraceError::Range),
-        ("w 0 0 fg", TraceError::Hex),
-        ("w 0 0 fff", TraceError::Hex),
-        (
-            "w 0 0 00112233445566778899aabbccddeeff00",
-            TraceError::Length,
-        ),
-        ("w 0 4095 ffff", TraceError::Range),
-    ] {
+// Asserts that each of these texts has this as its first fault.
+fn check_faults(rt: &impl Abort, fault: TraceError, texts: &[&str]) {
+    for &text in texts {
         assert_eq!(rt; parse_step(text), Err(fault), "at {text:?}");
     }
-    assert_eq!(rt;
+}
+
+#[test]
+fn first_faults(rt: HostRuntime) {
+    let no_steps = [
+        "",
+        "x 1",
+        "r 0 0",
+        "p q 00",
+        "r  0 0 1",
+        " i",
+        "p i ",
+        "f",
+        "r a 0 1 2",
+    ];
+    check_faults(&rt, TraceError::Unknown, &no_steps);
+    check_faults(
+        &rt,
+        TraceError::Number,
+        &["r a 0 1", "r 00000000000 0 1", "r +1 0 1"],
+    );
+    let reads = [
+        "r 65536 0 1",
+        "r 4294967296 0 1",
+        "r 0 4096 1",
+        "r 0 0 17",
+        "r 0 0 0",
+        "r 0 4095 2",
+    ];
+    check_faults(&rt, TraceError::Range, &reads);
+    check_faults(&rt, TraceError::Range, &["w 65536 0 fg", "w 0 4095 ffff"]);
+    check_faults(&rt, TraceError::Hex, &["w 0 0 fg", "w 0 0 fff"]);
+    check_faults(
+        &rt,
+        TraceError::Length,
+        &["w 0 0 00112233445566778899aabbccddeeff00"],
+    );
+    check_eq(
+        &rt,
         parse_step_within("w 65536 0 fg", 262144),
-        Err(TraceError::Hex)
+        Err(TraceError::Hex),
     );
 }
 
