@@ -1,4 +1,5 @@
-//! The tests of the small crates, by their public calls: of sets of pages, frames, page maps, swap areas, samplers, prices, books and JSON.
+//! The tests of the small crates, by their public calls: of sets of pages, frames, page maps, swap areas,
+//! traces, samplers, prices, books, command lines and JSON.
 //!
 //! They are a crate of their own, so that none of those is proved once more with its tests.
 #![tactic(auto)]

@@ -1,4 +1,5 @@
 mod admission;
+mod commands;
 mod frames;
 mod json;
 mod page_map;
@@ -6,6 +7,7 @@ mod pages;
 mod sampling;
 mod swap;
 mod tax;
+mod traces;
 
 use std::fmt::Debug;
 use std::process::Abort;

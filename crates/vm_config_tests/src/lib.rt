@@ -1,6 +1,6 @@
-//! The tests of `vm_config`, by its public calls.
+//! The tests of `vm_config` and of `vm_domains`, by their public calls.
 //!
-//! They are a crate of their own, so that `vm_config` is not proved once more with them.
+//! They are a crate of their own, so that neither is proved once more with them.
 #![tactic(auto)]
 
 #[cfg(test)]

@@ -1,7 +1,8 @@
+mod domains;
 mod limits;
 mod places;
 
-use std::alloc::Global;
+use std::alloc::{AllocError, Global};
 use std::process::Abort;
 use std::test::Fail;
 use vm_config::{Config, ConfigError, Scheduled, TraceError, migrate, read_config, read_config_v1};
@@ -70,6 +71,30 @@ fn assert_guest(
     assert_eq!(rt; fault_in_guest(rt, version, keys), fault, "{keys}");
 }
 
+// Asserts whether each configuration with one of these in its root is refused.
+fn assert_roots(
+    rt: &(impl AllocGlobal + Abort),
+    version: u32,
+    fault: Option<ConfigError>,
+    each: &[&str],
+) {
+    for &keys in each {
+        assert_root(rt, version, keys, fault);
+    }
+}
+
+// Asserts whether each configuration with one of these in its guest is refused.
+fn assert_guests(
+    rt: &(impl AllocGlobal + Abort),
+    version: u32,
+    fault: Option<ConfigError>,
+    each: &[&str],
+) {
+    for &keys in each {
+        assert_guest(rt, version, keys, fault);
+    }
+}
+
 // A key with a number.
 fn key_with(rt: &(impl AllocGlobal + Abort), key: &str, number: u64) -> String {
     let alloc = rt.alloc();
@@ -130,136 +155,201 @@ fn numbers_of_guests_have_ranges(rt: HostRuntime) {
 
 #[test]
 fn keys_of_the_root_are_refused(rt: HostRuntime) {
-    let texts = [
-        (1, "\"percent\":[100,100,100,100]", None),
-        (1, "\"percent\":[101,1,1,1]", Some(ConfigError::Range)),
-        (2, "\"percent\":[10000,10000,0,0]", None),
-        (2, "\"percent\":[10001,1,1,1]", Some(ConfigError::Range)),
-        (2, "\"percent\":[1,2,1,1]", Some(ConfigError::Range)),
-        (2, "\"percent\":[2,1,2,1]", Some(ConfigError::Range)),
-        (2, "\"percent\":[2,1,0,1]", Some(ConfigError::Range)),
-        (1, "\"percent\":[2,1,0]", Some(ConfigError::Range)),
-        (1, "\"percent\":[2,1,0,0,0]", Some(ConfigError::Range)),
-        (1, "\"percent\":[2,1,0,0,\"\"]", Some(ConfigError::Kind)),
-        (1, "\"percent\":[101,1,1,-1]", Some(ConfigError::Kind)),
-        (1, "\"percent\":6", Some(ConfigError::Kind)),
-        (1, "\"tax\":1.0", Some(ConfigError::Kind)),
-        (1, "\"tax\":1e0", Some(ConfigError::Kind)),
-        (1, "\"tax\":-1", Some(ConfigError::Kind)),
-        (1, "\"tax\":null", Some(ConfigError::Kind)),
-        (1, "\"guests\":[1]", Some(ConfigError::Kind)),
-        (1, "\"guests\":{}", Some(ConfigError::Kind)),
-        (1, "\"commands\":[1]", Some(ConfigError::Kind)),
-        (1, "\"commands\":{}", Some(ConfigError::Kind)),
-        (1, "\"colour\":[1]", None),
-        // Of two faults the first one in the order of the tables is answered.
-        (1, "\"frames\":0,\"swap\":null", Some(ConfigError::Range)),
-        (1, "\"swap\":null,\"frames\":0", Some(ConfigError::Range)),
-        (1, "\"overhead\":1025,\"tax\":[]", Some(ConfigError::Range)),
-        (1, "\"tax\":[],\"percent\":[]", Some(ConfigError::Kind)),
-        (
-            1,
+    assert_roots(
+        &rt,
+        1,
+        None,
+        &["\"percent\":[100,100,100,100]", "\"colour\":[1]"],
+    );
+    assert_roots(
+        &rt,
+        1,
+        Some(ConfigError::Range),
+        &[
+            "\"percent\":[101,1,1,1]",
+            "\"percent\":[2,1,0]",
+            "\"percent\":[2,1,0,0,0]",
+        ],
+    );
+    assert_roots(&rt, 2, None, &["\"percent\":[10000,10000,0,0]"]);
+    assert_roots(
+        &rt,
+        2,
+        Some(ConfigError::Range),
+        &[
+            "\"percent\":[10001,1,1,1]",
+            "\"percent\":[1,2,1,1]",
+            "\"percent\":[2,1,2,1]",
+            "\"percent\":[2,1,0,1]",
+        ],
+    );
+    assert_roots(
+        &rt,
+        1,
+        Some(ConfigError::Kind),
+        &[
+            "\"percent\":[2,1,0,0,\"\"]",
+            "\"percent\":[101,1,1,-1]",
+            "\"percent\":6",
+            "\"tax\":1.0",
+            "\"tax\":1e0",
+            "\"tax\":-1",
+            "\"tax\":null",
+            "\"guests\":[1]",
+            "\"guests\":{}",
+            "\"commands\":[1]",
+            "\"commands\":{}",
+        ],
+    );
+}
+
+// Of two faults the first one in the order of the tables is answered.
+#[test]
+fn the_first_fault_of_the_root_is_answered(rt: HostRuntime) {
+    assert_roots(
+        &rt,
+        1,
+        Some(ConfigError::Range),
+        &[
+            "\"frames\":0,\"swap\":null",
+            "\"swap\":null,\"frames\":0",
+            "\"overhead\":1025,\"tax\":[]",
             "\"percent\":[],\"page_rate\":\"\"",
-            Some(ConfigError::Range),
-        ),
-        (
-            1,
             "\"page_rate\":0,\"quantum\":\"\"",
-            Some(ConfigError::Range),
-        ),
-        (1, "\"quantum\":0,\"epochs\":\"\"", Some(ConfigError::Range)),
-        (1, "\"epochs\":10001,\"guests\":1", Some(ConfigError::Range)),
-        (
-            1,
+            "\"quantum\":0,\"epochs\":\"\"",
+            "\"epochs\":10001,\"guests\":1",
+        ],
+    );
+    assert_roots(
+        &rt,
+        1,
+        Some(ConfigError::Kind),
+        &[
+            "\"tax\":[],\"percent\":[]",
             "\"guests\":[{}],\"commands\":[1]",
-            Some(ConfigError::Kind),
-        ),
-        (
-            1,
-            "\"guests\":[{}],\"commands\":[{\"at\":\"\"}]",
-            Some(ConfigError::Missing),
-        ),
-    ];
-    for (version, keys, fault) in texts {
-        assert_root(&rt, version, keys, fault);
-    }
+        ],
+    );
+    assert_roots(
+        &rt,
+        1,
+        Some(ConfigError::Missing),
+        &["\"guests\":[{}],\"commands\":[{\"at\":\"\"}]"],
+    );
 }
 
 #[test]
 fn keys_of_guests_are_refused(rt: HostRuntime) {
-    let texts = [
-        (1, "\"seed\":18446744073709551615", None),
-        (1, "\"seed\":18446744073709551616", Some(ConfigError::Kind)),
-        (1, "\"stream\":18446744073709551615", None),
-        (
-            1,
+    assert_guests(
+        &rt,
+        1,
+        None,
+        &[
+            "\"seed\":18446744073709551615",
+            "\"stream\":18446744073709551615",
+            "\"autostart\":false",
+            "\"tell\":1",
+            "\"name\":\"A.b_c-9\"",
+            "\"name\":\"abcdefghijklmnopqrstuvwxyz012345\"",
+        ],
+    );
+    assert_guests(
+        &rt,
+        1,
+        Some(ConfigError::Kind),
+        &[
+            "\"seed\":18446744073709551616",
             "\"stream\":18446744073709551616",
-            Some(ConfigError::Kind),
-        ),
-        (1, "\"autostart\":false", None),
-        (1, "\"autostart\":null", Some(ConfigError::Kind)),
-        (1, "\"tell\":1", None),
-        (2, "\"tell\":1", Some(ConfigError::Kind)),
-        (2, "\"tell\":false", None),
-        (1, "\"trace\":[\"i\",1]", Some(ConfigError::Kind)),
-        (1, "\"trace\":\"i\"", Some(ConfigError::Kind)),
-        (1, "\"name\":\"A.b_c-9\"", None),
-        (1, "\"name\":\"\"", Some(ConfigError::Name)),
-        (1, "\"name\":\"-a\"", Some(ConfigError::Name)),
-        (1, "\"name\":\"a b\"", Some(ConfigError::Name)),
-        (1, "\"name\":\"abcdefghijklmnopqrstuvwxyz012345\"", None),
-        (
-            1,
+            "\"autostart\":null",
+            "\"trace\":[\"i\",1]",
+            "\"trace\":\"i\"",
+            "\"name\":1",
+        ],
+    );
+    assert_guests(&rt, 2, Some(ConfigError::Kind), &["\"tell\":1"]);
+    assert_guests(&rt, 2, None, &["\"tell\":false"]);
+    assert_guests(
+        &rt,
+        1,
+        Some(ConfigError::Name),
+        &[
+            "\"name\":\"\"",
+            "\"name\":\"-a\"",
+            "\"name\":\"a b\"",
             "\"name\":\"abcdefghijklmnopqrstuvwxyz0123456\"",
-            Some(ConfigError::Name),
-        ),
-        (1, "\"name\":1", Some(ConfigError::Kind)),
-        // Of two faults the first one in the order of the table is answered.
-        (1, "\"name\":\"-\",\"size\":\"\"", Some(ConfigError::Name)),
-        (1, "\"size\":0,\"min\":\"\"", Some(ConfigError::Range)),
-        (1, "\"min\":5,\"shares\":\"\"", Some(ConfigError::Range)),
-        (1, "\"shares\":0,\"samples\":\"\"", Some(ConfigError::Range)),
-        (1, "\"samples\":0,\"period\":\"\"", Some(ConfigError::Range)),
-        (1, "\"period\":0,\"rate\":\"\"", Some(ConfigError::Range)),
-        (1, "\"rate\":0,\"seed\":\"\"", Some(ConfigError::Range)),
-        (
-            1,
+        ],
+    );
+}
+
+// Of two faults the first one in the order of the table is answered.
+#[test]
+fn the_first_fault_of_a_guest_is_answered(rt: HostRuntime) {
+    assert_guests(
+        &rt,
+        1,
+        Some(ConfigError::Name),
+        &["\"name\":\"-\",\"size\":\"\""],
+    );
+    assert_guests(
+        &rt,
+        1,
+        Some(ConfigError::Range),
+        &[
+            "\"size\":0,\"min\":\"\"",
+            "\"min\":5,\"shares\":\"\"",
+            "\"shares\":0,\"samples\":\"\"",
+            "\"samples\":0,\"period\":\"\"",
+            "\"period\":0,\"rate\":\"\"",
+            "\"rate\":0,\"seed\":\"\"",
+        ],
+    );
+    assert_guests(
+        &rt,
+        1,
+        Some(ConfigError::Kind),
+        &[
             "\"stream\":\"\",\"trace\":[\"x\"]",
-            Some(ConfigError::Kind),
-        ),
-        (
-            2,
-            "\"tell\":\"\",\"trace\":[\"x\"]",
-            Some(ConfigError::Kind),
-        ),
-        (
-            1,
             "\"autostart\":\"\",\"trace\":[\"x\"]",
-            Some(ConfigError::Kind),
-        ),
-        (1, "\"trace\":[\"x\",1]", Some(ConfigError::Kind)),
-    ];
-    for (version, keys, fault) in texts {
-        assert_guest(&rt, version, keys, fault);
+            "\"trace\":[\"x\",1]",
+        ],
+    );
+    assert_guests(
+        &rt,
+        2,
+        Some(ConfigError::Kind),
+        &["\"tell\":\"\",\"trace\":[\"x\"]"],
+    );
+}
+
+// Asserts whether each configuration of one command, by its epoch and its line, is refused.
+fn assert_commands_read(
+    rt: &(impl AllocGlobal + Abort),
+    fault: Option<ConfigError>,
+    each: &[(&str, &str)],
+) {
+    for &(at, line) in each {
+        assert_eq!(rt; fault_in_command(rt, at, line), fault, "{at} {line}");
     }
 }
 
 #[test]
 fn keys_of_commands_are_refused(rt: HostRuntime) {
-    let texts = [
-        ("0", "\"x\"", None),
-        ("9999", "\" ~\"", None),
-        ("10000", "\"\"", Some(ConfigError::Range)),
-        ("10000", "1", Some(ConfigError::Range)),
-        ("\"\"", "\"\"", Some(ConfigError::Kind)),
-        ("0", "1", Some(ConfigError::Kind)),
-        ("0", "\"\"", Some(ConfigError::Range)),
-        ("0", "\"\\u007f\"", Some(ConfigError::Range)),
-        ("0", "\"\\u001f\"", Some(ConfigError::Range)),
-    ];
-    for (at, line, fault) in texts {
-        assert_eq!(rt; fault_in_command(&rt, at, line), fault, "{at} {line}");
-    }
+    assert_commands_read(&rt, None, &[("0", "\"x\""), ("9999", "\" ~\"")]);
+    assert_commands_read(
+        &rt,
+        Some(ConfigError::Range),
+        &[
+            ("10000", "\"\""),
+            ("10000", "1"),
+            ("0", "\"\""),
+            ("0", "\"\\u007f\""),
+            ("0", "\"\\u001f\""),
+        ],
+    );
+    assert_commands_read(
+        &rt,
+        Some(ConfigError::Kind),
+        &[("\"\"", "\"\""), ("0", "1")],
+    );
 }
 
 #[test]
@@ -328,31 +418,46 @@ fn arrays_have_lengths(rt: HostRuntime) {
     }
 }
 
-#[test]
-fn texts_are_refused(rt: HostRuntime) {
-    let texts = [
-        (FIRST_READ, None),
-        ("{\"version\":1", Some(ConfigError::NotJson)),
-        ("{}", Some(ConfigError::Missing)),
-        ("[]", Some(ConfigError::Kind)),
-        ("{\"version\":0}", Some(ConfigError::Range)),
-        ("{\"version\":1}", Some(ConfigError::Missing)),
-        ("{\"version\":2}", Some(ConfigError::Missing)),
-        ("{\"version\":3}", Some(ConfigError::Range)),
-        ("{\"version\":\"3\"}", Some(ConfigError::Kind)),
-        ("{\"version\":null}", Some(ConfigError::Kind)),
-        (
-            "{\"version\":1,\"frames\":9,\"epochs\":1,\"guests\":[{\"name\":\"a\",\"size\":1,\"min\":1},{\"name\":\"a\"}]}",
-            Some(ConfigError::Twice),
-        ),
-        (
-            "{\"version\":1,\"frames\":9,\"epochs\":1,\"guests\":[{\"name\":\"a\",\"size\":1,\"min\":1},{\"name\":\"A\",\"size\":1,\"min\":1}]}",
-            None,
-        ),
-    ];
-    for (text, fault) in texts {
+// Asserts whether each of these texts is refused.
+fn assert_texts(rt: &(impl AllocGlobal + Abort), fault: Option<ConfigError>, texts: &[&str]) {
+    for &text in texts {
         assert_eq!(rt; refusal(rt.alloc(), text), fault, "{text}");
     }
+}
+
+#[test]
+fn texts_are_refused(rt: HostRuntime) {
+    assert_texts(
+        &rt,
+        None,
+        &[
+            FIRST_READ,
+            "{\"version\":1,\"frames\":9,\"epochs\":1,\"guests\":[{\"name\":\"a\",\"size\":1,\"min\":1},{\"name\":\"A\",\"size\":1,\"min\":1}]}",
+        ],
+    );
+    assert_texts(&rt, Some(ConfigError::NotJson), &["{\"version\":1"]);
+    assert_texts(
+        &rt,
+        Some(ConfigError::Missing),
+        &["{}", "{\"version\":1}", "{\"version\":2}"],
+    );
+    assert_texts(
+        &rt,
+        Some(ConfigError::Kind),
+        &["[]", "{\"version\":\"3\"}", "{\"version\":null}"],
+    );
+    assert_texts(
+        &rt,
+        Some(ConfigError::Range),
+        &["{\"version\":0}", "{\"version\":3}"],
+    );
+    assert_texts(
+        &rt,
+        Some(ConfigError::Twice),
+        &[
+            "{\"version\":1,\"frames\":9,\"epochs\":1,\"guests\":[{\"name\":\"a\",\"size\":1,\"min\":1},{\"name\":\"a\"}]}",
+        ],
+    );
 }
 
 // The percents of a machine, and its tax.
@@ -448,32 +553,36 @@ fn assert_other_version(rt: &(impl AllocGlobal + Abort), text: &str) {
     );
 }
 
-#[test]
-fn absent_keys_have_defaults(rt: HostRuntime) -> Result<(), Fail> {
-    let alloc = rt.alloc();
+// Asserts what a configuration is that says nothing but 9 frames, 2 epochs and a guest `a` of 4 pages with a minimum of 3.
+fn assert_defaults(rt: &impl Abort, config: Config) {
     let hundredths = Percents {
         high: 600,
         soft: 400,
         hard: 200,
         low: 100,
     };
+    assert_shown(rt, &config, hundredths, 7500);
+    assert_machine(rt, &config, [9, 0, 0, 16]);
+    assert_epochs(rt, &config, 2);
+    assert_autostart(rt, &config, &[true]);
+    assert_commands(rt, &config, 0);
+    let (names, specs) = config.domains.into_parts();
+    assert_first_name(rt, &names, "a");
+    let guest = specs.first().expect(rt, "there is a guest");
+    assert_numbers(rt, guest, [4, 3, 1000, 100, 1000, 16, 100]);
+    assert_seeds(rt, guest, [0, 0]);
+    assert_tells(rt, guest, true);
+    assert_no_steps(rt, guest);
+}
+
+#[test]
+fn absent_keys_have_defaults(rt: HostRuntime) -> Result<(), Fail> {
+    let alloc = rt.alloc();
     for version in [1, 2] {
         let text = format!(in alloc;
             "{{\"version\":{version},\"frames\":9,\"epochs\":2,\"guests\":[{{\"name\":\"a\",\"size\":4,\"min\":3}}]}}"
         )?;
-        let config: Config = read_config(alloc, text.as_bytes())?;
-        assert_shown(&rt, &config, hundredths, 7500);
-        assert_machine(&rt, &config, [9, 0, 0, 16]);
-        assert_epochs(&rt, &config, 2);
-        assert_autostart(&rt, &config, &[true]);
-        assert_commands(&rt, &config, 0);
-        let (names, specs) = config.domains.into_parts();
-        assert_first_name(&rt, &names, "a");
-        let guest = specs.first().expect(&rt, "there is a guest");
-        assert_numbers(&rt, guest, [4, 3, 1000, 100, 1000, 16, 100]);
-        assert_seeds(&rt, guest, [0, 0]);
-        assert_tells(&rt, guest, true);
-        assert_no_steps(&rt, guest);
+        assert_defaults(&rt, read_config(alloc, text.as_bytes())?);
     }
     Ok(())
 }
@@ -533,36 +642,65 @@ fn version_1_is_migrated(rt: HostRuntime) -> Result<(), Fail> {
     Ok(())
 }
 
-// Asserts the number of a fault.
-fn assert_number(rt: &impl Abort, fault: ConfigError, number: u8) {
-    assert_eq!(rt; fault.number(), number);
+// Asserts the number of a fault, and how it reads.
+fn assert_reads(
+    rt: &impl Abort,
+    alloc: Global,
+    fault: ConfigError,
+    number: u8,
+    wanted: &str,
+) -> Result<(), AllocError> {
+    let words = format!(in alloc; "{fault}")?;
+    assert_eq!(rt; (fault.number(), words.as_str()), (number, wanted));
+    Ok(())
 }
 
 #[test]
 fn faults_have_numbers_and_texts(rt: HostRuntime) -> Result<(), Fail> {
     let alloc = rt.alloc();
+    assert_reads(&rt, alloc, ConfigError::NotJson, 1, "not a JSON text")?;
+    assert_reads(
+        &rt,
+        alloc,
+        ConfigError::Missing,
+        2,
+        "a required key is absent",
+    )?;
+    assert_reads(
+        &rt,
+        alloc,
+        ConfigError::Kind,
+        3,
+        "a value is not of its key's kind",
+    )?;
+    assert_reads(
+        &rt,
+        alloc,
+        ConfigError::Range,
+        4,
+        "a value is outside its key's range",
+    )?;
+    let unnamed = "a name has a character or a length that names do not have";
+    assert_reads(&rt, alloc, ConfigError::Name, 5, unnamed)?;
+    assert_reads(
+        &rt,
+        alloc,
+        ConfigError::Twice,
+        6,
+        "two guests have one name",
+    )?;
     let trace = ConfigError::Trace {
         guest: 2,
         step: 5,
         fault: TraceError::Hex,
     };
-    let faults = [
-        (ConfigError::NotJson, 1, "not a JSON text"),
-        (ConfigError::Missing, 2, "a required key is absent"),
-        (ConfigError::Kind, 3, "a value is not of its key's kind"),
-        (ConfigError::Range, 4, "a value is outside its key's range"),
-        (
-            ConfigError::Name,
-            5,
-            "a name has a character or a length that names do not have",
-        ),
-        (ConfigError::Twice, 6, "two guests have one name"),
-        (trace, 7, "guest 2, step 5: not hexadecimal bytes"),
-        (ConfigError::Memory, 8, "out of memory"),
-    ];
-    for (fault, number, text) in faults {
-        assert_number(&rt, fault, number);
-        assert_eq!(rt; format!(in alloc; "{fault}")?.as_str(), text);
-    }
+    assert_reads(
+        &rt,
+        alloc,
+        trace,
+        7,
+        "guest 2, step 5: not hexadecimal bytes",
+    )?;
+    assert_reads(&rt, alloc, ConfigError::Memory, 8, "out of memory")?;
     Ok(())
 }

@@ -1,5 +1,7 @@
 // Worked examples of admission.
 use super::check_eq;
+use std::alloc::Global;
+use std::process::Abort;
 use std::test::Fail;
 use vm_admission::{AdmissionError, Books};
 
@@ -28,23 +30,45 @@ fn minimum_changes(rt: HostRuntime) -> Result<(), Fail> {
     books.admit(8, 8)?;
     books.change_min(8, 4, 4)?;
     check_eq(&rt, books.change_min(4, 3, 1), Err(AdmissionError::NoSwap));
-    check_eq(&rt, books.change_min(4, 99, 0), Err(AdmissionError::NoMemory));
+    check_eq(
+        &rt,
+        books.change_min(4, 99, 0),
+        Err(AdmissionError::NoMemory),
+    );
     books.change_min(4, 98, 0)?;
     books.leave(98, 12);
     books.admit(98, 12)?;
     Ok(())
 }
 
+// Asserts the number of a refusal, and how it reads.
+fn check_refusal(
+    rt: &impl Abort,
+    alloc: Global,
+    refusal: AdmissionError,
+    number: u8,
+    wanted: &str,
+) -> Result<(), Fail> {
+    let words = refusal.to_string(alloc)?;
+    assert_eq!(rt; (refusal as u8, words.as_str()), (number, wanted));
+    Ok(())
+}
+
 #[test]
 fn refusals_read(rt: HostRuntime) -> Result<(), Fail> {
-    let alloc = rt.alloc();
-    check_eq(&rt, AdmissionError::NoMemory.to_string(alloc)?.as_str(),
-        "no memory to reserve"
-    );
-    check_eq(&rt, AdmissionError::NoSwap.to_string(alloc)?.as_str(),
-        "no swap to reserve"
-    );
-    check_eq(&rt, AdmissionError::NoMemory as u8, 1);
-    check_eq(&rt, AdmissionError::NoSwap as u8, 2);
+    check_refusal(
+        &rt,
+        rt.alloc(),
+        AdmissionError::NoMemory,
+        1,
+        "no memory to reserve",
+    )?;
+    check_refusal(
+        &rt,
+        rt.alloc(),
+        AdmissionError::NoSwap,
+        2,
+        "no swap to reserve",
+    )?;
     Ok(())
 }

@@ -89,11 +89,15 @@ fn last_member_of_a_name_counts(rt: HostRuntime) -> Result<(), Fail> {
         &mut scratch,
     )?;
     check_eq(&rt, is_object(&object), true);
-    check_eq(&rt, member(&object, "a").and_then(|value| whole(value)),
-        Some(2)
+    check_eq(
+        &rt,
+        member(&object, "a").and_then(|value| whole(value)),
+        Some(2),
     );
-    check_eq(&rt, member(&object, "b").and_then(|value| truth(value)),
-        Some(true)
+    check_eq(
+        &rt,
+        member(&object, "b").and_then(|value| truth(value)),
+        Some(true),
     );
     check_eq(&rt, member(&object, "d").is_none(), true);
     let taken = take_member(object, "a");

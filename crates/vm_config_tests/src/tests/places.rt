@@ -44,48 +44,58 @@ fn null_at(rt: &(impl AllocGlobal + Abort), key: &str) -> String {
     format!(in alloc; ",\"{key}\":null").expect(rt, "there is memory")
 }
 
-const KEYS: [(Part, Key, &str); 25] = [
-    (Part::Root, Key::Version, "version"),
-    (Part::Root, Key::Frames, "frames"),
-    (Part::Root, Key::Swap, "swap"),
-    (Part::Root, Key::Overhead, "overhead"),
-    (Part::Root, Key::Tax, "tax"),
-    (Part::Root, Key::Percent, "percent"),
-    (Part::Root, Key::PageRate, "page_rate"),
-    (Part::Root, Key::Quantum, "quantum"),
-    (Part::Root, Key::Epochs, "epochs"),
-    (Part::Root, Key::Guests, "guests"),
-    (Part::Root, Key::Commands, "commands"),
-    (Part::Guest(1), Key::Name, "name"),
-    (Part::Guest(1), Key::Size, "size"),
-    (Part::Guest(1), Key::Min, "min"),
-    (Part::Guest(1), Key::Shares, "shares"),
-    (Part::Guest(1), Key::Samples, "samples"),
-    (Part::Guest(1), Key::Period, "period"),
-    (Part::Guest(1), Key::Rate, "rate"),
-    (Part::Guest(1), Key::Seed, "seed"),
-    (Part::Guest(1), Key::Stream, "stream"),
-    (Part::Guest(1), Key::Autostart, "autostart"),
-    (Part::Guest(1), Key::Tell, "tell"),
-    (Part::Guest(1), Key::Trace, "trace"),
-    (Part::Command(1), Key::At, "at"),
-    (Part::Command(1), Key::Line, "line"),
-];
-
-#[test]
-fn each_key_is_a_place(rt: HostRuntime) {
-    for (part, key, name) in KEYS {
-        let null = null_at(&rt, name);
+// Asserts that each of these keys of a part is a place, where a value that is null is no value of its kind.
+fn assert_places(rt: &(impl AllocGlobal + Abort), part: Part, keys: &[(Key, &str)]) {
+    for &(key, name) in keys {
+        let null = null_at(rt, name);
         let text = match part {
-            Part::Root => text_with(&rt, &null, "", ""),
-            Part::Guest(_) => text_with(&rt, "", &null, ""),
-            Part::Command(_) => text_with(&rt, "", "", &null),
+            Part::Root => text_with(rt, &null, "", ""),
+            Part::Guest(_) => text_with(rt, "", &null, ""),
+            Part::Command(_) => text_with(rt, "", "", &null),
         };
         let error = ConfigError::Kind;
         let place = Place::Key { part, key };
-        assert_first_fault(&rt, &text, Some(Fault { error, place }));
-        assert_name(&rt, key, name);
+        assert_first_fault(rt, &text, Some(Fault { error, place }));
+        assert_name(rt, key, name);
     }
+}
+
+#[test]
+fn each_key_is_a_place(rt: HostRuntime) {
+    let root = [
+        (Key::Version, "version"),
+        (Key::Frames, "frames"),
+        (Key::Swap, "swap"),
+        (Key::Overhead, "overhead"),
+        (Key::Tax, "tax"),
+        (Key::Percent, "percent"),
+        (Key::PageRate, "page_rate"),
+        (Key::Quantum, "quantum"),
+        (Key::Epochs, "epochs"),
+        (Key::Guests, "guests"),
+        (Key::Commands, "commands"),
+    ];
+    assert_places(&rt, Part::Root, &root);
+    let guest = [
+        (Key::Name, "name"),
+        (Key::Size, "size"),
+        (Key::Min, "min"),
+        (Key::Shares, "shares"),
+        (Key::Samples, "samples"),
+        (Key::Period, "period"),
+        (Key::Rate, "rate"),
+        (Key::Seed, "seed"),
+        (Key::Stream, "stream"),
+        (Key::Autostart, "autostart"),
+        (Key::Tell, "tell"),
+        (Key::Trace, "trace"),
+    ];
+    assert_places(&rt, Part::Guest(1), &guest);
+    assert_places(
+        &rt,
+        Part::Command(1),
+        &[(Key::At, "at"), (Key::Line, "line")],
+    );
 }
 
 const UNKNOWN_STEP: ConfigError = ConfigError::Trace {
@@ -94,210 +104,166 @@ const UNKNOWN_STEP: ConfigError = ConfigError::Trace {
     fault: TraceError::Unknown,
 };
 
-// Keys of the root, of guest 1 and of command 1; the first fault in the order of the tables, and where it is.
-const TEXTS: [(&str, &str, &str, ConfigError, Part, Key); 14] = [
-    (
-        ",\"swap\":null,\"frames\":0",
-        "",
-        "",
+// Asserts the first fault, in the order of the tables, of these keys of the root, of guest 1 and of command 1, and where it is.
+fn assert_fault(
+    rt: &(impl AllocGlobal + Abort),
+    keys: [&str; 3],
+    error: ConfigError,
+    part: Part,
+    key: Key,
+) {
+    let [root, guest, command] = keys;
+    let text = text_with(rt, root, guest, command);
+    let place = Place::Key { part, key };
+    assert_first_fault(rt, &text, Some(Fault { error, place }));
+}
+
+#[test]
+fn the_first_fault_is_in_the_root(rt: HostRuntime) {
+    assert_fault(
+        &rt,
+        [",\"swap\":null,\"frames\":0", "", ""],
         ConfigError::Range,
         Part::Root,
         Key::Frames,
-    ),
-    (
-        ",\"guests\":[1]",
-        "",
-        ",\"at\":\"\"",
+    );
+    assert_fault(
+        &rt,
+        [",\"guests\":[1]", "", ",\"at\":\"\""],
         ConfigError::Kind,
         Part::Root,
         Key::Guests,
-    ),
-    (
-        ",\"commands\":1",
-        ",\"size\":0",
-        "",
+    );
+    assert_fault(
+        &rt,
+        [",\"commands\":1", ",\"size\":0", ""],
         ConfigError::Kind,
         Part::Root,
         Key::Commands,
-    ),
-    (
-        ",\"guests\":[{}]",
-        "",
-        "",
+    );
+}
+
+#[test]
+fn the_first_fault_is_in_a_guest(rt: HostRuntime) {
+    assert_fault(
+        &rt,
+        [",\"guests\":[{}]", "", ""],
         ConfigError::Missing,
         Part::Guest(0),
         Key::Name,
-    ),
-    (
-        ",\"guests\":[{\"name\":\"a\",\"size\":1},{}]",
-        "",
-        "",
+    );
+    assert_fault(
+        &rt,
+        [",\"guests\":[{\"name\":\"a\",\"size\":1},{}]", "", ""],
         ConfigError::Missing,
         Part::Guest(0),
         Key::Min,
-    ),
-    (
-        "",
-        ",\"min\":5",
-        ",\"at\":null",
+    );
+    assert_fault(
+        &rt,
+        ["", ",\"min\":5", ",\"at\":null"],
         ConfigError::Range,
         Part::Guest(1),
         Key::Min,
-    ),
-    (
-        "",
-        ",\"size\":0,\"name\":\"-\"",
-        "",
+    );
+    assert_fault(
+        &rt,
+        ["", ",\"size\":0,\"name\":\"-\"", ""],
         ConfigError::Name,
         Part::Guest(1),
         Key::Name,
-    ),
-    (
-        "",
-        ",\"name\":\"a\"",
-        "",
+    );
+    assert_fault(
+        &rt,
+        ["", ",\"name\":\"a\"", ""],
         ConfigError::Twice,
         Part::Guest(1),
         Key::Name,
-    ),
-    (
-        "",
-        ",\"trace\":[\"x\"],\"tell\":1",
-        "",
+    );
+    assert_fault(
+        &rt,
+        ["", ",\"trace\":[\"x\"],\"tell\":1", ""],
         ConfigError::Kind,
         Part::Guest(1),
         Key::Tell,
-    ),
-    (
-        "",
-        ",\"trace\":[\"x\",1]",
-        "",
+    );
+    assert_fault(
+        &rt,
+        ["", ",\"trace\":[\"x\",1]", ""],
         ConfigError::Kind,
         Part::Guest(1),
         Key::Trace,
-    ),
-    (
-        "",
-        ",\"trace\":[\"i\",\"i\",\"x\"]",
-        "",
+    );
+    assert_fault(
+        &rt,
+        ["", ",\"trace\":[\"i\",\"i\",\"x\"]", ""],
         UNKNOWN_STEP,
         Part::Guest(1),
         Key::Trace,
-    ),
-    (
-        "",
-        "",
-        ",\"line\":\"\",\"at\":10000",
+    );
+}
+
+#[test]
+fn the_first_fault_is_in_a_command(rt: HostRuntime) {
+    assert_fault(
+        &rt,
+        ["", "", ",\"line\":\"\",\"at\":10000"],
         ConfigError::Range,
         Part::Command(1),
         Key::At,
-    ),
-    (
-        "",
-        "",
-        ",\"line\":\"\"",
+    );
+    assert_fault(
+        &rt,
+        ["", "", ",\"line\":\"\""],
         ConfigError::Range,
         Part::Command(1),
         Key::Line,
-    ),
-    (
-        ",\"commands\":[{}]",
-        "",
-        "",
+    );
+    assert_fault(
+        &rt,
+        [",\"commands\":[{}]", "", ""],
         ConfigError::Missing,
         Part::Command(0),
         Key::At,
-    ),
-];
-
-#[test]
-fn the_first_fault_has_its_place(rt: HostRuntime) {
-    for (root, guest, command, error, part, key) in TEXTS {
-        let text = text_with(&rt, root, guest, command);
-        let place = Place::Key { part, key };
-        assert_first_fault(&rt, &text, Some(Fault { error, place }));
-    }
+    );
 }
 
-const WHOLE_TEXTS: [(&str, Option<(ConfigError, Place)>); 10] = [
-    ("{\"version\":1", Some((ConfigError::NotJson, Place::Text))),
-    ("[]", Some((ConfigError::Kind, Place::Text))),
-    (
-        "{}",
-        Some((
-            ConfigError::Missing,
-            Place::Key {
-                part: Part::Root,
-                key: Key::Version,
-            },
-        )),
-    ),
-    (
-        "{\"version\":3}",
-        Some((
-            ConfigError::Range,
-            Place::Key {
-                part: Part::Root,
-                key: Key::Version,
-            },
-        )),
-    ),
-    (
-        "{\"version\":1}",
-        Some((
-            ConfigError::Missing,
-            Place::Key {
-                part: Part::Root,
-                key: Key::Frames,
-            },
-        )),
-    ),
-    (
-        "{\"version\":2}",
-        Some((
-            ConfigError::Missing,
-            Place::Key {
-                part: Part::Root,
-                key: Key::Frames,
-            },
-        )),
-    ),
-    (
-        "{\"version\":1,\"frames\":65537}",
-        Some((
-            ConfigError::Range,
-            Place::Key {
-                part: Part::Root,
-                key: Key::Frames,
-            },
-        )),
-    ),
-    (
-        "{\"version\":2,\"frames\":65537}",
-        Some((
-            ConfigError::Missing,
-            Place::Key {
-                part: Part::Root,
-                key: Key::Epochs,
-            },
-        )),
-    ),
-    (
-        "{\"version\":1,\"frames\":1,\"epochs\":1,\"guests\":[]}",
-        None,
-    ),
-    (
-        "{\"version\":2,\"frames\":1,\"epochs\":1,\"guests\":[]}",
-        None,
-    ),
-];
+// Asserts that a text as a whole has this fault.
+fn assert_no_text(rt: &(impl AllocGlobal + Abort), text: &str, error: ConfigError) {
+    let place = Place::Text;
+    assert_first_fault(rt, text, Some(Fault { error, place }));
+}
+
+// Asserts that the root of a text has this fault at this key.
+fn assert_fault_in_root(rt: &(impl AllocGlobal + Abort), text: &str, error: ConfigError, key: Key) {
+    let place = Place::Key {
+        part: Part::Root,
+        key,
+    };
+    assert_first_fault(rt, text, Some(Fault { error, place }));
+}
 
 #[test]
 fn whole_texts_are_explained(rt: HostRuntime) {
-    for (text, wanted) in WHOLE_TEXTS {
-        let wanted = wanted.map(|(error, place)| Fault { error, place });
-        assert_first_fault(&rt, text, wanted);
-    }
+    assert_no_text(&rt, "{\"version\":1", ConfigError::NotJson);
+    assert_no_text(&rt, "[]", ConfigError::Kind);
+    let missing = ConfigError::Missing;
+    assert_fault_in_root(&rt, "{}", missing, Key::Version);
+    assert_fault_in_root(&rt, "{\"version\":1}", missing, Key::Frames);
+    assert_fault_in_root(&rt, "{\"version\":2}", missing, Key::Frames);
+    assert_fault_in_root(
+        &rt,
+        "{\"version\":2,\"frames\":65537}",
+        missing,
+        Key::Epochs,
+    );
+    let range = ConfigError::Range;
+    assert_fault_in_root(&rt, "{\"version\":3}", range, Key::Version);
+    assert_fault_in_root(&rt, "{\"version\":1,\"frames\":65537}", range, Key::Frames);
+    let least_of_1 = "{\"version\":1,\"frames\":1,\"epochs\":1,\"guests\":[]}";
+    assert_first_fault(&rt, least_of_1, None);
+    let least_of_2 = "{\"version\":2,\"frames\":1,\"epochs\":1,\"guests\":[]}";
+    assert_first_fault(&rt, least_of_2, None);
 }
 
 const RAGGED_STEP: ConfigError = ConfigError::Trace {

@@ -1,13 +1,9 @@
 // The table of steps and faults, and a trace.
-use std::fmt::Debug;
+use super::check_eq;
+use std::alloc::Global;
 use std::process::Abort;
 use std::test::Fail;
 use vm_trace::{Action, Bytes, Queue, Trace, TraceError, parse_step, parse_step_within};
-
-// Asserts that both are the same. It stands here once, since what says how two values differ is proved wherever it stands.
-fn check_eq<T: Copy + Debug + PartialEq>(rt: &impl Abort, found: T, wanted: T) {
-    assert_eq!(rt; found, wanted);
-}
 
 // Asserts that each of these texts has this as its first fault.
 fn check_faults(rt: &impl Abort, fault: TraceError, texts: &[&str]) {
@@ -183,17 +179,26 @@ fn traces_keep_the_bytes_of_each_step(rt: HostRuntime) -> Result<(), Fail> {
     Ok(())
 }
 
+// Asserts the number of a fault, and how it reads.
+fn check_fault(
+    rt: &impl Abort,
+    alloc: Global,
+    fault: TraceError,
+    number: u8,
+    wanted: &str,
+) -> Result<(), Fail> {
+    let words = fault.to_string(alloc)?;
+    assert_eq!(rt; (fault as u8, words.as_str()), (number, wanted));
+    Ok(())
+}
+
 #[test]
 fn faults_read(rt: HostRuntime) -> Result<(), Fail> {
-    for (fault, number, text) in [
-        (TraceError::Unknown, 1, "unknown step"),
-        (TraceError::Number, 2, "not a number"),
-        (TraceError::Range, 3, "out of range"),
-        (TraceError::Hex, 4, "not hexadecimal bytes"),
-        (TraceError::Length, 5, "too many bytes"),
-    ] {
-        assert_eq!(rt; fault as u8, number);
-        assert_eq!(rt; fault.to_string(rt.alloc())?.as_str(), text);
-    }
+    let alloc = rt.alloc();
+    check_fault(&rt, alloc, TraceError::Unknown, 1, "unknown step")?;
+    check_fault(&rt, alloc, TraceError::Number, 2, "not a number")?;
+    check_fault(&rt, alloc, TraceError::Range, 3, "out of range")?;
+    check_fault(&rt, alloc, TraceError::Hex, 4, "not hexadecimal bytes")?;
+    check_fault(&rt, alloc, TraceError::Length, 5, "too many bytes")?;
     Ok(())
 }
