@@ -170,14 +170,8 @@ fn places_are_used_again(rt: HostRuntime) -> Result<(), Fail> {
         check_service(&rt, device, &[6, 1, 4, 3], &[], 0);
         check_total(&rt, device, Some(9));
 
-        check_posts(
-            &rt,
-            device,
-            &[
-                (Queue::Inflate, &encode_page(5)),
-                (Queue::Statistics, &[5, 0]),
-            ],
-        );
+        check_post(&rt, device, Queue::Inflate, &encode_page(5));
+        check_post(&rt, device, Queue::Statistics, &[5, 0]);
         check_service(&rt, device, &[5], &[], 0);
         check_stats(&rt, device, Stats::default());
 
