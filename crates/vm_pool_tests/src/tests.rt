@@ -135,6 +135,12 @@ fn check_frames(rt: &impl Abort, pool: &Pool, frames: (u32, u32), free: u32) {
     assert_eq!(rt; (frames_of(pool, 0), pool.free()), (Some(frames), free));
 }
 
+// Asserts the same, and the pages that the first guest has set aside in the swap area.
+fn check_reserve(rt: &impl Abort, pool: &Pool, frames: (u32, u32), free: u32, reserve: u32) {
+    check_frames(rt, pool, frames, free);
+    assert_eq!(rt; pool.reserve(0), Some(reserve));
+}
+
 // Sets the minimum of a guest.
 fn set_min(rt: &impl Abort, pool: &mut Pool, position: usize, least: u32) {
     assert!(rt; sets_min(rt, pool, position, least));
@@ -189,28 +195,16 @@ fn frames_move_and_add_up(rt: HostRuntime) -> Result<(), Fail> {
     start(&rt, &mut pool, 1);
     check_eq(&rt, pool.is_running(0) && pool.stopped(0).is_none(), true);
     check_eq(&rt, (pool.free(), pool.overhead_frames()), (10, 2));
-    check_eq(
-        &rt,
-        (frames_of(&pool, 0), pool.reserve(0)),
-        (Some((4, 4)), Some(4)),
-    );
+    check_reserve(&rt, &pool, (4, 4), 10, 4);
 
     grant(&rt, &mut pool, 0);
     check_frames(&rt, &pool, (5, 5), 9);
     take_back(&rt, &mut pool, 0);
     check_frames(&rt, &pool, (4, 4), 10);
     set_min(&rt, &mut pool, 0, 7);
-    check_eq(
-        &rt,
-        (frames_of(&pool, 0), pool.free(), pool.reserve(0)),
-        (Some((7, 7)), 7, Some(4)),
-    );
+    check_reserve(&rt, &pool, (7, 7), 7, 4);
     set_min(&rt, &mut pool, 0, 2);
-    check_eq(
-        &rt,
-        (frames_of(&pool, 0), pool.free(), pool.reserve(0)),
-        (Some((7, 7)), 7, Some(6)),
-    );
+    check_reserve(&rt, &pool, (7, 7), 7, 6);
     stop(&rt, &mut pool, 0);
     check_eq(
         &rt,
