@@ -154,53 +154,45 @@ fn numbers_of_guests_have_ranges(rt: HostRuntime) {
 }
 
 #[test]
-fn keys_of_the_root_are_refused(rt: HostRuntime) {
-    assert_roots(
-        &rt,
-        1,
-        None,
-        &["\"percent\":[100,100,100,100]", "\"colour\":[1]"],
-    );
-    assert_roots(
-        &rt,
-        1,
-        Some(ConfigError::Range),
-        &[
-            "\"percent\":[101,1,1,1]",
-            "\"percent\":[2,1,0]",
-            "\"percent\":[2,1,0,0,0]",
-        ],
-    );
+fn percents_are_refused(rt: HostRuntime) {
+    assert_roots(&rt, 1, None, &["\"percent\":[100,100,100,100]"]);
     assert_roots(&rt, 2, None, &["\"percent\":[10000,10000,0,0]"]);
-    assert_roots(
-        &rt,
-        2,
-        Some(ConfigError::Range),
-        &[
-            "\"percent\":[10001,1,1,1]",
-            "\"percent\":[1,2,1,1]",
-            "\"percent\":[2,1,2,1]",
-            "\"percent\":[2,1,0,1]",
-        ],
-    );
-    assert_roots(
-        &rt,
-        1,
-        Some(ConfigError::Kind),
-        &[
-            "\"percent\":[2,1,0,0,\"\"]",
-            "\"percent\":[101,1,1,-1]",
-            "\"percent\":6",
-            "\"tax\":1.0",
-            "\"tax\":1e0",
-            "\"tax\":-1",
-            "\"tax\":null",
-            "\"guests\":[1]",
-            "\"guests\":{}",
-            "\"commands\":[1]",
-            "\"commands\":{}",
-        ],
-    );
+    let range = Some(ConfigError::Range);
+    let too_great_or_few = [
+        "\"percent\":[101,1,1,1]",
+        "\"percent\":[2,1,0]",
+        "\"percent\":[2,1,0,0,0]",
+    ];
+    assert_roots(&rt, 1, range, &too_great_or_few);
+    let too_great_or_rising = [
+        "\"percent\":[10001,1,1,1]",
+        "\"percent\":[1,2,1,1]",
+        "\"percent\":[2,1,2,1]",
+        "\"percent\":[2,1,0,1]",
+    ];
+    assert_roots(&rt, 2, range, &too_great_or_rising);
+    let no_numbers = [
+        "\"percent\":[2,1,0,0,\"\"]",
+        "\"percent\":[101,1,1,-1]",
+        "\"percent\":6",
+    ];
+    assert_roots(&rt, 1, Some(ConfigError::Kind), &no_numbers);
+}
+
+#[test]
+fn keys_of_the_root_are_refused(rt: HostRuntime) {
+    assert_roots(&rt, 1, None, &["\"colour\":[1]"]);
+    let kinds = [
+        "\"tax\":1.0",
+        "\"tax\":1e0",
+        "\"tax\":-1",
+        "\"tax\":null",
+        "\"guests\":[1]",
+        "\"guests\":{}",
+        "\"commands\":[1]",
+        "\"commands\":{}",
+    ];
+    assert_roots(&rt, 1, Some(ConfigError::Kind), &kinds);
 }
 
 // Of two faults the first one in the order of the tables is answered.
@@ -239,45 +231,40 @@ fn the_first_fault_of_the_root_is_answered(rt: HostRuntime) {
 
 #[test]
 fn keys_of_guests_are_refused(rt: HostRuntime) {
-    assert_guests(
-        &rt,
-        1,
-        None,
-        &[
-            "\"seed\":18446744073709551615",
-            "\"stream\":18446744073709551615",
-            "\"autostart\":false",
-            "\"tell\":1",
-            "\"name\":\"A.b_c-9\"",
-            "\"name\":\"abcdefghijklmnopqrstuvwxyz012345\"",
-        ],
-    );
-    assert_guests(
-        &rt,
-        1,
-        Some(ConfigError::Kind),
-        &[
-            "\"seed\":18446744073709551616",
-            "\"stream\":18446744073709551616",
-            "\"autostart\":null",
-            "\"trace\":[\"i\",1]",
-            "\"trace\":\"i\"",
-            "\"name\":1",
-        ],
-    );
+    let good = [
+        "\"seed\":18446744073709551615",
+        "\"stream\":18446744073709551615",
+        "\"autostart\":false",
+        "\"tell\":1",
+    ];
+    assert_guests(&rt, 1, None, &good);
+    let kinds = [
+        "\"seed\":18446744073709551616",
+        "\"stream\":18446744073709551616",
+        "\"autostart\":null",
+        "\"trace\":[\"i\",1]",
+        "\"trace\":\"i\"",
+        "\"name\":1",
+    ];
+    assert_guests(&rt, 1, Some(ConfigError::Kind), &kinds);
     assert_guests(&rt, 2, Some(ConfigError::Kind), &["\"tell\":1"]);
     assert_guests(&rt, 2, None, &["\"tell\":false"]);
-    assert_guests(
-        &rt,
-        1,
-        Some(ConfigError::Name),
-        &[
-            "\"name\":\"\"",
-            "\"name\":\"-a\"",
-            "\"name\":\"a b\"",
-            "\"name\":\"abcdefghijklmnopqrstuvwxyz0123456\"",
-        ],
-    );
+}
+
+#[test]
+fn names_are_refused(rt: HostRuntime) {
+    let good = [
+        "\"name\":\"A.b_c-9\"",
+        "\"name\":\"abcdefghijklmnopqrstuvwxyz012345\"",
+    ];
+    assert_guests(&rt, 1, None, &good);
+    let bad = [
+        "\"name\":\"\"",
+        "\"name\":\"-a\"",
+        "\"name\":\"a b\"",
+        "\"name\":\"abcdefghijklmnopqrstuvwxyz0123456\"",
+    ];
+    assert_guests(&rt, 1, Some(ConfigError::Name), &bad);
 }
 
 // Of two faults the first one in the order of the table is answered.
@@ -659,48 +646,23 @@ fn assert_reads(
 fn faults_have_numbers_and_texts(rt: HostRuntime) -> Result<(), Fail> {
     let alloc = rt.alloc();
     assert_reads(&rt, alloc, ConfigError::NotJson, 1, "not a JSON text")?;
-    assert_reads(
-        &rt,
-        alloc,
-        ConfigError::Missing,
-        2,
-        "a required key is absent",
-    )?;
-    assert_reads(
-        &rt,
-        alloc,
-        ConfigError::Kind,
-        3,
-        "a value is not of its key's kind",
-    )?;
-    assert_reads(
-        &rt,
-        alloc,
-        ConfigError::Range,
-        4,
-        "a value is outside its key's range",
-    )?;
-    let unnamed = "a name has a character or a length that names do not have";
-    assert_reads(&rt, alloc, ConfigError::Name, 5, unnamed)?;
-    assert_reads(
-        &rt,
-        alloc,
-        ConfigError::Twice,
-        6,
-        "two guests have one name",
-    )?;
+    let missing = "a required key is absent";
+    assert_reads(&rt, alloc, ConfigError::Missing, 2, missing)?;
+    let kind = "a value is not of its key's kind";
+    assert_reads(&rt, alloc, ConfigError::Kind, 3, kind)?;
+    let range = "a value is outside its key's range";
+    assert_reads(&rt, alloc, ConfigError::Range, 4, range)?;
+    let name = "a name has a character or a length that names do not have";
+    assert_reads(&rt, alloc, ConfigError::Name, 5, name)?;
+    let twice = "two guests have one name";
+    assert_reads(&rt, alloc, ConfigError::Twice, 6, twice)?;
     let trace = ConfigError::Trace {
         guest: 2,
         step: 5,
         fault: TraceError::Hex,
     };
-    assert_reads(
-        &rt,
-        alloc,
-        trace,
-        7,
-        "guest 2, step 5: not hexadecimal bytes",
-    )?;
+    let hex = "guest 2, step 5: not hexadecimal bytes";
+    assert_reads(&rt, alloc, trace, 7, hex)?;
     assert_reads(&rt, alloc, ConfigError::Memory, 8, "out of memory")?;
     Ok(())
 }

@@ -180,6 +180,10 @@ fn the_first_fault_is_in_a_guest(rt: HostRuntime) {
         Part::Guest(1),
         Key::Name,
     );
+}
+
+#[test]
+fn the_first_fault_is_in_a_choice_or_in_a_trace(rt: HostRuntime) {
     assert_fault(
         &rt,
         ["", ",\"trace\":[\"x\"],\"tell\":1", ""],
