@@ -135,7 +135,7 @@ fn check_frames(rt: &impl Abort, pool: &Pool, frames: (u32, u32), free: u32) {
     assert_eq!(rt; (frames_of(pool, 0), pool.free()), (Some(frames), free));
 }
 
-// Asserts the same, and the pages that the first guest has set aside in the swap area.
+// Asserts this of the first guest as `check_frames` does, and how many pages of the swap area are set aside for it.
 fn check_reserve(rt: &impl Abort, pool: &Pool, frames: (u32, u32), free: u32, reserve: u32) {
     check_frames(rt, pool, frames, free);
     assert_eq!(rt; pool.reserve(0), Some(reserve));
