@@ -1,15 +1,24 @@
 // A guest on a machine of its own.
-ghost use Rattle.std.specs.Prelude.{◌≡◌, ◌+◌, ◌-◌, ◌<◌, ◌≤◌, ◌^◌};
+ghost use Rattle.std.specs.Prelude.{◌≡◌, ◌+◌, ◌-◌, ◌<◌, ◌≤◌, ◌^◌, IsTrue, length};
 ghost use Rattle.vm_guest.specs.Good.{HasNothingPosted};
 ghost use Rattle.vm_guest.specs.Room.{room_for};
 
+use super::setup::{check_eq, plain_guest};
 use std::marker::Model;
 use std::process::Abort;
 use vm_balloon::Stats;
 use vm_frames::{Machine, PAGE_BYTES};
 use vm_guest::{Guest, GuestRoom, GuestSpec, GuestView, PageRead};
+use vm_trace::Bytes;
 
 const FRAMES: u32 = 100;
+
+// Asserts what a call wants.
+fn demand(rt: &impl Abort, holds: bool)
+    ensures { IsTrue holds }
+{
+    assert!(rt; holds);
+}
 
 // A guest, and a machine that no other guest has frames of.
 pub(super) struct LoneGuest {
@@ -39,6 +48,14 @@ impl LoneGuest {
         ensures nothing { HasNothingPosted result.guest }
     {
         LoneGuest::start_on(rt, spec, FRAMES)
+    }
+
+    // A plain guest with these steps, after its first boundary and its first epoch.
+    pub(super) fn after_epoch(rt: &(impl Abort + AllocGlobal), steps: &[&str]) -> LoneGuest {
+        let mut lone = LoneGuest::start(rt, plain_guest(rt, steps));
+        lone.order(false);
+        lone.epoch(rt);
+        lone
     }
 
     // On a machine of so many frames.
@@ -97,7 +114,7 @@ impl LoneGuest {
         ensures { HasNothingPosted self.old.guest → HasNothingPosted self.new.guest }
     {
         let view = self.guest.view();
-        assert!(rt; view.target <= view.held);
+        demand(rt, view.target <= view.held);
         self.guest.spares_back(&mut self.machine)
     }
 
@@ -111,14 +128,14 @@ impl LoneGuest {
 
     pub(super) fn release(&mut self, rt: &impl Abort, count: u32) {
         let view = self.guest.view();
-        assert!(rt; view.target <= view.held);
-        assert!(rt; count <= view.held - view.target);
+        demand(rt, view.target <= view.held);
+        demand(rt, count <= view.held - view.target);
         self.guest.release(count, &mut self.machine);
     }
 
     pub(super) fn revoke(&mut self, rt: &impl Abort) {
         let view = self.guest.view();
-        assert!(rt; view.min < view.target);
+        demand(rt, view.min < view.target);
         self.guest.revoke();
     }
 
@@ -127,9 +144,9 @@ impl LoneGuest {
         ensures { HasNothingPosted self.old.guest → HasNothingPosted self.new.guest }
     {
         let view = self.guest.view();
-        assert!(rt; 0 < view.demand);
-        assert!(rt; view.target < view.cap);
-        assert_eq!(rt; view.target, view.held);
+        demand(rt, 0 < view.demand);
+        demand(rt, view.target < view.cap);
+        demand(rt, view.target == view.held);
         let frame = self.machine.take().expect(rt, "a free frame");
         self.guest.grant(Some(frame));
     }
@@ -137,15 +154,15 @@ impl LoneGuest {
     // A grant of a frame that the guest holds.
     pub(super) fn grant_held(&mut self, rt: &impl Abort) {
         let view = self.guest.view();
-        assert!(rt; 0 < view.demand);
-        assert!(rt; view.target < view.cap);
-        assert!(rt; view.target < view.held);
+        demand(rt, 0 < view.demand);
+        demand(rt, view.target < view.cap);
+        demand(rt, view.target < view.held);
         self.guest.grant(None);
     }
 
     pub(super) fn add_spare(&mut self, rt: &impl Abort) {
         let view = self.guest.view();
-        assert!(rt; view.held < view.target);
+        demand(rt, view.held < view.target);
         let frame = self.machine.take().expect(rt, "a free frame");
         self.guest.add_spare(frame);
     }
@@ -155,8 +172,8 @@ impl LoneGuest {
         ensures nothing { HasNothingPosted self.old.guest → HasNothingPosted self.new.guest }
     {
         let view = self.guest.view();
-        assert!(rt; view.min <= cap);
-        assert!(rt; cap <= view.size);
+        demand(rt, view.min <= cap);
+        demand(rt, cap <= view.size);
         self.guest.set_cap(cap);
     }
 
@@ -165,9 +182,9 @@ impl LoneGuest {
         ensures { self.new.capacity ≡ self.old.capacity }
     {
         let view = self.guest.view();
-        assert!(rt; 1 <= least);
-        assert!(rt; least <= view.cap);
-        assert!(rt; view.size - least <= self.guest.reserve());
+        demand(rt, 1 <= least);
+        demand(rt, least <= view.cap);
+        demand(rt, view.size - least <= self.guest.reserve());
         self.guest.set_min(least);
     }
 
@@ -176,12 +193,12 @@ impl LoneGuest {
         requires { self.old.capacity + 100 < 2 ^ 32 }
     {
         let view = self.guest.view();
-        assert!(rt; 1 <= least);
-        assert!(rt; least <= view.cap);
+        demand(rt, 1 <= least);
+        demand(rt, least <= view.cap);
         let reserve = self.guest.reserve();
-        assert!(rt; reserve <= view.size - least);
+        demand(rt, reserve <= view.size - least);
         let more = view.size - least - reserve;
-        assert!(rt; more <= 100);
+        demand(rt, more <= 100);
         self.guest.grow_swap(more).expect(rt, "memory");
         self.guest.set_min(least);
     }
@@ -200,74 +217,90 @@ impl LoneGuest {
 
     // Asserts what is shown of the guest.
     pub(super) fn check_view(&self, rt: &impl Abort, view: GuestView) {
-        assert_eq!(rt; self.guest.view(), view);
+        check_eq(rt, self.guest.view(), view);
     }
 
     // Asserts the target, the frames held, and the demand.
     pub(super) fn check_wants(&self, rt: &impl Abort, wanted: (u32, u32, u64)) {
         let view = self.guest.view();
-        assert_eq!(rt; (view.target, view.held, view.demand), wanted);
+        check_eq(rt, (view.target, view.held, view.demand), wanted);
     }
 
     // Asserts the frames held, the pages in them, and the pages in the swap area.
     pub(super) fn check_pages(&self, rt: &impl Abort, wanted: (u32, u32, u32)) {
         let view = self.guest.view();
-        assert_eq!(rt; (view.held, view.resident, view.swapped), wanted);
+        check_eq(rt, (view.held, view.resident, view.swapped), wanted);
     }
 
     // Asserts the pages in the balloon, and how many the driver says are there.
     pub(super) fn check_balloon(&self, rt: &impl Abort, wanted: (u32, u32)) {
         let view = self.guest.view();
-        assert_eq!(rt; (view.balloon, view.actual), wanted);
+        check_eq(rt, (view.balloon, view.actual), wanted);
     }
 
     // Asserts how many steps are done, and the page for which the next one waits.
     pub(super) fn check_progress(&self, rt: &impl Abort, done: u32, stalled: Option<u32>) {
         let view = self.guest.view();
-        assert_eq!(rt; (view.done, view.stalled), (done, stalled));
+        check_eq(rt, (view.done, view.stalled), (done, stalled));
     }
 
     // Asserts how many bad entries were posted.
     pub(super) fn check_bad(&self, rt: &impl Abort, bad: u64) {
-        assert_eq!(rt; self.guest.view().bad, bad);
+        check_eq(rt, self.guest.view().bad, bad);
     }
 
     // Asserts the active fraction, in parts of 65536.
     pub(super) fn check_active(&self, rt: &impl Abort, active: u32) {
-        assert_eq!(rt; self.guest.view().active, active);
+        check_eq(rt, self.guest.view().active, active);
     }
 
     // Asserts how many pages can lie in the swap area.
     pub(super) fn check_reserve(&self, rt: &impl Abort, pages: u32) {
-        assert_eq!(rt; self.guest.reserve(), pages);
+        check_eq(rt, self.guest.reserve(), pages);
     }
 
     // Asserts what the driver has said of the guest's memory.
     pub(super) fn check_stats(&self, rt: &impl Abort, wanted: Stats) {
-        assert_eq!(rt; self.guest.stats(), wanted);
+        check_eq(rt, self.guest.stats(), wanted);
     }
 
     // Asserts the first bytes of a page and the last one, or that there is no such page.
     pub(super) fn check_page(&self, rt: &impl Abort, page: u32, bytes: Option<[u8; 3]>) {
         let mut found = [7; PAGE_BYTES];
         let is_there = self.guest.peek(page, &mut found);
-        assert_eq!(rt; is_there, bytes.is_some());
-        assert_eq!(rt; [found[0], found[1], found[4095]], bytes.unwrap_or([7; 3]));
+        check_eq(rt, is_there, bytes.is_some());
+        check_eq(
+            rt,
+            [found[0], found[1], found[4095]],
+            bytes.unwrap_or([7; 3]),
+        );
     }
 
     // Asserts the reads of the last epoch.
     pub(super) fn check_reads(&self, rt: &impl Abort, reads: &[PageRead]) {
-        assert_eq!(rt; self.guest.reads(), reads);
+        check_eq(rt, self.guest.reads(), reads);
+    }
+
+    // Asserts that the last epoch has read this at the beginning of a page, and nothing else.
+    pub(super) fn check_read(&self, rt: &impl Abort, page: u32, bytes: &[u8])
+        requires { length bytes.now ≤ 64 }
+    {
+        let read = PageRead {
+            page,
+            offset: 0,
+            bytes: Bytes::from_slice(bytes),
+        };
+        self.check_reads(rt, &[read]);
     }
 
     // Asserts how many frames are free.
     pub(super) fn check_free(&self, rt: &impl Abort, frames: u32) {
-        assert_eq!(rt; self.machine.free(), frames);
+        check_eq(rt, self.machine.free(), frames);
     }
 
     // Asserts the first byte of each of the first pages.
     pub(super) fn check_first_bytes(&self, rt: &impl Abort, bytes: [Option<u8>; 4]) {
-        assert_eq!(rt; self.first_bytes(), bytes);
+        check_eq(rt, self.first_bytes(), bytes);
     }
 
     // The first byte of a page.
@@ -295,5 +328,16 @@ impl LoneGuest {
         let spec = guest.stop(&mut machine);
         machine.close();
         spec
+    }
+
+    // The same, where the specification that comes back goes as well.
+    pub(super) fn finish(self) {
+        let _spec = self.end();
+    }
+
+    // The same, which asserts the size of that specification, its minimum, and how many steps it has.
+    pub(super) fn finish_as(self, rt: &impl Abort, wanted: (u32, u32, usize)) {
+        let spec = self.end();
+        check_eq(rt, (spec.size, spec.min, spec.trace.len()), wanted);
     }
 }

@@ -11,7 +11,7 @@ fn slow_decay(rt: HostRuntime) {
         lone.next_epoch(&rt);
         lone.check_active(&rt, active);
     }
-    lone.end();
+    lone.finish();
 }
 
 // Each step is a period, and an epoch has three.
@@ -25,7 +25,7 @@ fn periods_of_an_epoch(rt: HostRuntime) {
         lone.next_epoch(&rt);
         lone.check_active(&rt, active);
     }
-    lone.end();
+    lone.finish();
 }
 
 // The longest epochs of a guest without a trace, each of whose steps ends a period of a thousand draws.
@@ -40,5 +40,5 @@ fn longest_idle_epochs(rt: HostRuntime) {
         lone.next_epoch(&rt);
         lone.check_active(&rt, 0);
     }
-    lone.end();
+    lone.finish();
 }

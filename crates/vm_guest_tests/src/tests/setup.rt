@@ -3,9 +3,16 @@ ghost use Rattle.std.specs.Prelude.{◌≡◌, ◌≤◌, All, IfOk, OnOk, lengt
 ghost use Rattle.vm_trace.specs.Limits.{IsStep, IsWithin};
 
 use std::alloc::Global;
+use std::fmt::Debug;
+use std::process::Abort;
 use std::test::Fail;
-use vm_guest::{GuestSpec, GuestView, PageRead};
-use vm_trace::{Bytes, Trace, parse_step_within};
+use vm_guest::{GuestSpec, GuestView};
+use vm_trace::{Trace, parse_step_within};
+
+// Asserts that both are the same. It stands here once, since what says how two values differ is proved wherever it stands.
+pub(super) fn check_eq<T: Copy + Debug + PartialEq>(rt: &impl Abort, found: T, wanted: T) {
+    assert_eq!(rt; found, wanted);
+}
 
 // Adds a step of a guest with four pages.
 fn add_step(trace: &mut Trace, text: &str) -> Result<(), Fail>
@@ -37,10 +44,21 @@ fn trace_of(alloc: Global, steps: &[&str]) -> Result<Trace, Fail>
     Ok(trace)
 }
 
+// The same of texts that are such steps.
+fn good_trace(rt: &(impl Abort + AllocGlobal), steps: &[&str]) -> Trace
+    ensures within { All (IsWithin 4) result }
+    ensures bounded { All IsStep result }
+    ensures short { length result ≤ 1000 }
+{
+    match trace_of(rt.alloc(), steps) {
+        Ok(trace) => trace,
+        Err(_fail) => panic!(rt; "no trace"),
+    }
+}
+
 // A guest with four pages, all of which are its minimum, and otherwise the defaults of a configuration.
-pub(super) fn plain_guest(alloc: Global, steps: &[&str]) -> Result<GuestSpec, Fail> {
-    let trace = trace_of(alloc, steps)?;
-    Ok(GuestSpec {
+pub(super) fn plain_guest(rt: &(impl Abort + AllocGlobal), steps: &[&str]) -> GuestSpec {
+    GuestSpec {
         size: 4,
         min: 4,
         shares: 1000,
@@ -51,22 +69,21 @@ pub(super) fn plain_guest(alloc: Global, steps: &[&str]) -> Result<GuestSpec, Fa
         seed: 0,
         stream: 0,
         tell: true,
-        trace,
-    })
+        trace: good_trace(rt, steps),
+    }
 }
 
 // A guest with four pages, two of which are its minimum. Its generator's first word draws page 2 as the only sample.
 pub(super) fn small_guest(
-    alloc: Global,
+    rt: &(impl Abort + AllocGlobal),
     quantum: u32,
     tell: bool,
     steps: &[&str],
-) -> Result<GuestSpec, Fail>
+) -> GuestSpec
     requires some { 1 ≤ quantum }
     requires few { quantum ≤ 100 }
 {
-    let trace = trace_of(alloc, steps)?;
-    Ok(GuestSpec {
+    GuestSpec {
         size: 4,
         min: 2,
         shares: 1000,
@@ -77,8 +94,8 @@ pub(super) fn small_guest(
         seed: 42,
         stream: 54,
         tell,
-        trace,
-    })
+        trace: good_trace(rt, steps),
+    }
 }
 
 // A guest with so many pages, some of which are its minimum, and no trace.
@@ -105,33 +122,24 @@ pub(super) fn idle_guest(alloc: Global, size: u32, min: u32) -> GuestSpec
 }
 
 // What is seen of a small guest when it starts.
-pub(super) const SMALL: GuestView = GuestView {
-    size: 4,
-    min: 2,
-    cap: 4,
-    shares: 1000,
-    target: 2,
-    held: 2,
-    resident: 0,
-    swapped: 0,
-    used: 0,
-    balloon: 0,
-    actual: 0,
-    active: 65536,
-    demand: 2,
-    bad: 0,
-    done: 0,
-    stalled: None,
-    blocked: false,
-};
-
-// A read at the beginning of a page.
-pub(super) fn read(page: u32, bytes: &[u8]) -> PageRead
-    requires { length bytes.now ≤ 64 }
-{
-    PageRead {
-        page,
-        offset: 0,
-        bytes: Bytes::from_slice(bytes),
+pub(super) fn small_view() -> GuestView {
+    GuestView {
+        size: 4,
+        min: 2,
+        cap: 4,
+        shares: 1000,
+        target: 2,
+        held: 2,
+        resident: 0,
+        swapped: 0,
+        used: 0,
+        balloon: 0,
+        actual: 0,
+        active: 65536,
+        demand: 2,
+        bad: 0,
+        done: 0,
+        stalled: None,
+        blocked: false,
     }
 }
