@@ -1,20 +1,20 @@
 // The table of sizes, and the forms of lines.
+use super::{check_eq, check_words};
 use std::alloc::Global;
 use std::process::Abort;
-use std::test::Fail;
 use vm_commands::{Command, Domain, LineFault, parse_line, scaled_pages};
 
 // Asserts how many pages each of these sizes is.
 fn check_sizes(rt: &impl Abort, sizes: &[(&str, u64)]) {
     for &(text, pages) in sizes {
-        assert_eq!(rt; scaled_pages(text), Some(pages), "at {text:?}");
+        check_eq(rt, (text, scaled_pages(text)), (text, Some(pages)));
     }
 }
 
 // Asserts that none of these texts is a size.
 fn check_no_sizes(rt: &impl Abort, texts: &[&str]) {
     for &text in texts {
-        assert_eq!(rt; scaled_pages(text), None, "at {text:?}");
+        check_eq(rt, (text, scaled_pages(text)), (text, None));
     }
 }
 
@@ -94,41 +94,18 @@ fn commands(rt: HostRuntime) {
 // The four places of a minimum.
 #[test]
 fn minima(rt: HostRuntime) {
-    let alloc = rt.alloc();
-    expect_command(
-        &rt,
-        alloc,
+    let lines = [
         "memtune web --min-guarantee 800",
-        "memtune",
-        "web",
-        200,
-    );
-    expect_command(
-        &rt,
-        alloc,
         "memtune --min-guarantee 800 web",
-        "memtune",
-        "web",
-        200,
-    );
-    expect_command(
-        &rt,
-        alloc,
         "memtune web --min-guarantee=800",
-        "memtune",
-        "web",
-        200,
-    );
-    expect_command(
-        &rt,
-        alloc,
         "memtune --min-guarantee=800 web",
-        "memtune",
-        "web",
-        200,
-    );
+    ];
+    for line in &lines {
+        expect_command(&rt, rt.alloc(), line, "memtune", "web", 200);
+    }
 }
 
+// Asserts what command a line is.
 fn expect_command(
     rt: &impl Abort,
     alloc: Global,
@@ -138,16 +115,21 @@ fn expect_command(
     number: u64,
 ) {
     let command = parse_line(alloc, line).expect(rt, "a command");
-    let (found_kind, found_domain, found_number) = summary(&command);
-    assert!(rt; found_kind == kind, "at {line:?}");
-    assert!(rt; found_domain == domain, "at {line:?}");
-    assert_eq!(rt; found_number, number, "at {line:?}");
+    check_eq(
+        rt,
+        (line, summary(&command)),
+        (line, (kind, domain, number)),
+    );
 }
 
 // Asserts that each of these lines has this fault.
 fn check_faults(rt: &impl Abort, alloc: Global, fault: LineFault, lines: &[&str]) {
     for &line in lines {
-        assert_eq!(rt; parse_line(alloc, line).err(), Some(fault), "at {line:?}");
+        check_eq(
+            rt,
+            (line, parse_line(alloc, line).err()),
+            (line, Some(fault)),
+        );
     }
 }
 
@@ -203,39 +185,25 @@ fn bad_sizes(rt: HostRuntime) {
     check_faults(&rt, alloc, LineFault::Size, &shares);
 }
 
-fn assert_word(rt: &impl Abort, word: &str, wanted: &str) {
-    assert_eq!(rt; word, wanted);
-}
-
 #[test]
-fn a_domain_gives_its_word_back(rt: HostRuntime) -> Result<(), Fail> {
-    let Command::Start { domain } = parse_line(rt.alloc(), "start web")? else {
-        return Err(Fail::from("no start"));
+fn a_domain_gives_its_word_back(rt: HostRuntime) {
+    let command = parse_line(rt.alloc(), "start web").expect(&rt, "a command");
+    let Command::Start { domain } = command else {
+        panic!(rt; "no start");
     };
     let word = domain.into_string();
-    assert_word(&rt, &word, "web");
-    assert_word(&rt, Domain::from(word).as_str(), "web");
-    assert_word(&rt, Domain::new(rt.alloc(), "db")?.as_str(), "db");
-    Ok(())
-}
-
-// Asserts the number of a fault, and how it reads.
-fn check_fault(
-    rt: &impl Abort,
-    alloc: Global,
-    fault: LineFault,
-    number: u8,
-    wanted: &str,
-) -> Result<(), Fail> {
-    let words = fault.to_string(alloc)?;
-    assert_eq!(rt; (fault as u8, words.as_str()), (number, wanted));
-    Ok(())
+    check_eq(&rt, word.as_str(), "web");
+    check_eq(&rt, Domain::from(word).as_str(), "web");
+    let other = Domain::new(rt.alloc(), "db").expect(&rt, "memory");
+    check_eq(&rt, other.as_str(), "db");
 }
 
 #[test]
-fn faults_read(rt: HostRuntime) -> Result<(), Fail> {
-    check_fault(&rt, rt.alloc(), LineFault::Bad, 1, "bad line")?;
-    check_fault(&rt, rt.alloc(), LineFault::Size, 2, "bad size")?;
-    check_fault(&rt, rt.alloc(), LineFault::Memory, 3, "out of memory")?;
-    Ok(())
+fn faults_read(rt: HostRuntime) {
+    check_eq(&rt, LineFault::Bad as u8, 1);
+    check_eq(&rt, LineFault::Size as u8, 2);
+    check_eq(&rt, LineFault::Memory as u8, 3);
+    check_words(&rt, rt.alloc(), LineFault::Bad, "bad line");
+    check_words(&rt, rt.alloc(), LineFault::Size, "bad size");
+    check_words(&rt, rt.alloc(), LineFault::Memory, "out of memory");
 }

@@ -2,7 +2,16 @@
 ghost use Rattle.std.specs.Prelude.{◌≡◌, ◌<◌};
 
 use super::check_eq;
+use std::process::Abort;
 use vm_frames::{Frame, Machine, PAGE_BYTES};
+
+// Asserts that all frames of a machine are free, and how many these are, and ends it.
+pub(super) fn close_machine(rt: &impl Abort, machine: Machine, frames: u32)
+    requires { machine.total ≡ frames }
+{
+    assert_eq!(rt; machine.free(), frames);
+    machine.close();
+}
 
 // Writes a byte.
 fn put_byte(frame: &mut Frame, place: usize, byte: u8)
@@ -40,6 +49,5 @@ fn each_frame_is_taken_once(rt: HostRuntime) {
     machine.give(second);
     check_eq(&rt, machine.free(), 1);
     machine.give(first);
-    assert_eq!(rt; machine.free(), 2);
-    machine.close();
+    close_machine(&rt, machine, 2);
 }

@@ -2,7 +2,6 @@
 use super::check_eq;
 use std::alloc::Global;
 use std::process::Abort;
-use std::test::Fail;
 use vm_json::{
     ReadError, Scratch, Value, into_items, is_object, items, member, read, take_member, text,
     truth, whole,
@@ -14,37 +13,32 @@ fn refusal(alloc: Global, bytes: &[u8]) -> Option<ReadError> {
     read(alloc, bytes, &mut scratch).err()
 }
 
-// Asserts which whole number from 0 on a text is.
-fn check_whole(
-    rt: &impl Abort,
-    alloc: Global,
-    number: &str,
-    wanted: Option<u64>,
-) -> Result<(), Fail> {
+// The whole number from 0 on that a text is.
+fn whole_of(alloc: Global, text: &str) -> Result<Option<u64>, ReadError> {
     let mut scratch = Scratch::new(alloc);
-    let value = read(alloc, number.as_bytes(), &mut scratch)?;
-    assert_eq!(rt; whole(&value), wanted, "{number}");
-    Ok(())
+    let value = read(alloc, text.as_bytes(), &mut scratch)?;
+    Ok(whole(&value))
+}
+
+// Asserts which whole number from 0 on each of these texts is.
+fn check_whole(rt: &impl Abort, alloc: Global, wanted: Option<u64>, texts: &[&str]) {
+    for &text in texts {
+        check_eq(rt, (text, whole_of(alloc, text)), (text, Ok(wanted)));
+    }
 }
 
 #[test]
-fn reads_numbers(rt: HostRuntime) -> Result<(), Fail> {
-    let numbers = [
-        ("0", Some(0)),
-        ("18446744073709551615", Some(u64::MAX)),
-        ("18446744073709551616", None),
-        ("-0", None),
-        ("-1", None),
-        ("-9223372036854775809", None),
-        ("1.0", None),
-        ("1e3", None),
-        ("1e-999", None),
-        ("\"1\"", None),
-    ];
-    for (number, wanted) in numbers {
-        check_whole(&rt, rt.alloc(), number, wanted)?;
-    }
-    Ok(())
+fn reads_numbers(rt: HostRuntime) {
+    let alloc = rt.alloc();
+    check_whole(&rt, alloc, Some(0), &["0"]);
+    check_whole(&rt, alloc, Some(u64::MAX), &["18446744073709551615"]);
+    check_whole(
+        &rt,
+        alloc,
+        None,
+        &["18446744073709551616", "-0", "-1", "-9223372036854775809"],
+    );
+    check_whole(&rt, alloc, None, &["1.0", "1e3", "1e-999", "\"1\""]);
 }
 
 #[test]
@@ -66,65 +60,54 @@ fn refuses_what_is_no_value(rt: HostRuntime) {
 }
 
 #[test]
-fn arrays_nest_127_deep(rt: HostRuntime) -> Result<(), Fail> {
-    for (depth, wanted) in [(127, None), (128, Some(ReadError::NotJson))] {
-        let mut nested = String::new(rt.alloc());
-        for _ in 0..depth {
-            nested.push('[')?;
-        }
-        for _ in 0..depth {
-            nested.push(']')?;
-        }
-        check_eq(&rt, refusal(rt.alloc(), nested.as_bytes()), wanted);
-    }
-    Ok(())
+fn arrays_nest_127_deep(rt: HostRuntime) {
+    let mut nested = [b'['; 256];
+    nested[128..].copy_from_slice(&[b']'; 128]);
+    check_eq(&rt, refusal(rt.alloc(), &nested[1..255]), None);
+    check_eq(&rt, refusal(rt.alloc(), &nested), Some(ReadError::NotJson));
+}
+
+// Asserts what an object with a number under "a", a truth under "b" and nothing under "d" tells.
+fn check_members(rt: &impl Abort, object: &Value<'_>) {
+    check_eq(rt, is_object(object), true);
+    let number = member(object, "a").expect(rt, "a number");
+    check_eq(rt, whole(number), Some(2));
+    let flag = member(object, "b").expect(rt, "a truth");
+    check_eq(rt, truth(flag), Some(true));
+    check_eq(rt, member(object, "d").is_none(), true);
 }
 
 #[test]
-fn last_member_of_a_name_counts(rt: HostRuntime) -> Result<(), Fail> {
+fn last_member_of_a_name_counts(rt: HostRuntime) {
     let mut scratch = Scratch::new(rt.alloc());
     let object = read(
         rt.alloc(),
         b"{\"a\":1,\"b\":true,\"\\u0061\":2,\"c\":null}",
         &mut scratch,
-    )?;
-    check_eq(&rt, is_object(&object), true);
-    check_eq(
-        &rt,
-        member(&object, "a").and_then(|value| whole(value)),
-        Some(2),
-    );
-    check_eq(
-        &rt,
-        member(&object, "b").and_then(|value| truth(value)),
-        Some(true),
-    );
-    check_eq(&rt, member(&object, "d").is_none(), true);
-    let taken = take_member(object, "a");
-    check_eq(&rt, taken.as_ref().and_then(|value| whole(value)), Some(2));
-    Ok(())
+    )
+    .expect(&rt, "a value");
+    check_members(&rt, &object);
+    let taken = take_member(object, "a").expect(&rt, "a number");
+    check_eq(&rt, whole(&taken), Some(2));
 }
 
 // Asserts the texts of values.
 fn check_texts(rt: &impl Abort, values: &[Value<'_>], wanted: &[&str]) {
     for (value, word) in values.iter().zip(wanted) {
-        assert_eq!(rt; text(value), Some(*word));
+        check_eq(rt, text(value), Some(*word));
     }
 }
 
 #[test]
-fn texts_lose_their_escapes(rt: HostRuntime) -> Result<(), Fail> {
+fn texts_lose_their_escapes(rt: HostRuntime) {
     let mut scratch = Scratch::new(rt.alloc());
     let array = read(
         rt.alloc(),
         b" [\"a\\u0041\", \"\\ud83d\\ude00\", \"plain\"] ",
         &mut scratch,
-    )?;
-    let seen = items(&array).map(|values| values.len());
-    check_eq(&rt, seen, Some(3));
-    let Some(values) = into_items(array) else {
-        return Err(Fail::new("an array"));
-    };
+    )
+    .expect(&rt, "a value");
+    check_eq(&rt, items(&array).expect(&rt, "an array").len(), 3);
+    let values = into_items(array).expect(&rt, "an array");
     check_texts(&rt, &values, &["aA", "😀", "plain"]);
-    Ok(())
 }

@@ -2,22 +2,25 @@
 ghost use Rattle.std.specs.Prelude.{◌<◌, length};
 ghost use Rattle.vm_pagemap.specs.PageMap.{IsIn, page_at};
 
+use super::check_eq;
+use super::frames::close_machine;
 use std::process::Abort;
 use vm_frames::Machine;
 use vm_pagemap::{PageMap, Place};
 
 // The pages that are in, least first.
 fn check_resident(rt: &impl Abort, map: &PageMap, pages: &[u32]) {
-    assert_eq!(rt; map.resident() as usize, pages.len());
+    check_eq(rt, map.resident() as usize, pages.len());
     for place in 0..map.resident() {
-        assert_eq!(rt; map.resident_at(place), pages[place as usize]);
+        let wanted = pages.get(place as usize).copied();
+        check_eq(rt, Some(map.resident_at(place)), wanted);
     }
 }
 
 fn check_place(rt: &impl Abort, map: &PageMap, page: u32, place: Place)
     requires { page < length map.now }
 {
-    assert_eq!(rt; map.place(page), place);
+    check_eq(rt, map.place(page), place);
 }
 
 fn check_bytes(rt: &impl Abort, map: &PageMap)
@@ -26,7 +29,7 @@ fn check_bytes(rt: &impl Abort, map: &PageMap)
 {
     let mut bytes = [0; 3];
     map.read(2, 4093, &mut bytes);
-    assert_eq!(rt; bytes, [0, 7, 8]);
+    check_eq(rt, bytes, [0, 7, 8]);
 }
 
 #[test]
@@ -44,8 +47,7 @@ fn pages_are_listed_in_order(rt: HostRuntime) {
     machine.give(first);
     machine.give(second);
     map.close();
-    assert_eq!(rt; machine.free(), machine.total());
-    machine.close();
+    close_machine(&rt, machine, 2);
 }
 
 #[test]
@@ -67,6 +69,5 @@ fn pages_come_and_go(rt: HostRuntime) {
     check_resident(&rt, &map, &[]);
     check_place(&rt, &map, 2, Place::Absent);
     map.close();
-    assert_eq!(rt; machine.free(), 1);
-    machine.close();
+    close_machine(&rt, machine, 1);
 }

@@ -3,14 +3,14 @@ ghost use Rattle.std.specs.Prelude.{◌≡◌, ◌≤◌, vec_capacity};
 
 use super::check_eq;
 use std::process::Abort;
-use std::test::Fail;
 use vm_pages::PageSet;
 
 // Asserts which pages a set has, least first.
 fn check_pages(rt: &impl Abort, set: &PageSet, pages: &[u32]) {
-    assert_eq!(rt; set.len() as usize, pages.len());
+    check_eq(rt, set.len() as usize, pages.len());
     for place in 0..set.len() {
-        assert_eq!(rt; set.nth(place), pages[place as usize]);
+        let wanted = pages.get(place as usize).copied();
+        check_eq(rt, Some(set.nth(place)), wanted);
     }
 }
 
@@ -20,7 +20,7 @@ fn check_greatest(rt: &impl Abort, set: &PageSet, most: u32, pages: &mut Vec<u32
     ensures { vec_capacity pages.new ≡ vec_capacity pages.old }
 {
     set.list_greatest(most, pages);
-    assert_eq!(rt; pages.as_slice(), want);
+    check_eq(rt, pages.as_slice(), want);
 }
 
 // Asserts which the least pages of a set are.
@@ -29,12 +29,12 @@ fn check_least(rt: &impl Abort, set: &PageSet, most: u32, pages: &mut Vec<u32>, 
     ensures { vec_capacity pages.new ≡ vec_capacity pages.old }
 {
     set.list_least(most, pages);
-    assert_eq!(rt; pages.as_slice(), want);
+    check_eq(rt, pages.as_slice(), want);
 }
 
 #[test]
-fn pages_are_listed_in_order(rt: HostRuntime) -> Result<(), Fail> {
-    let mut set = PageSet::new(rt.alloc(), 600)?;
+fn pages_are_listed_in_order(rt: HostRuntime) {
+    let mut set = PageSet::new(rt.alloc(), 600).expect(&rt, "memory");
     check_eq(&rt, set.is_empty(), true);
     check_eq(&rt, set.insert(599), true);
     check_eq(&rt, set.insert(0), true);
@@ -45,21 +45,19 @@ fn pages_are_listed_in_order(rt: HostRuntime) -> Result<(), Fail> {
     check_eq(&rt, set.remove(255), true);
     check_eq(&rt, set.contains(256), true);
     check_pages(&rt, &set, &[0, 256, 599]);
-    Ok(())
 }
 
 #[test]
-fn extremes_are_listed_over_blocks(rt: HostRuntime) -> Result<(), Fail> {
-    let mut set = PageSet::new(rt.alloc(), 600)?;
+fn extremes_are_listed_over_blocks(rt: HostRuntime) {
+    let mut set = PageSet::new(rt.alloc(), 600).expect(&rt, "memory");
     check_eq(&rt, set.insert(256), true);
     check_eq(&rt, set.insert(0), true);
     check_eq(&rt, set.insert(599), true);
     check_eq(&rt, set.insert(255), true);
-    let mut pages = Vec::with_capacity(rt.alloc(), 8)?;
+    let mut pages = Vec::with_capacity(rt.alloc(), 8).expect(&rt, "memory");
     check_greatest(&rt, &set, 3, &mut pages, &[599, 256, 255]);
     check_least(&rt, &set, 2, &mut pages, &[0, 255]);
     check_greatest(&rt, &set, 8, &mut pages, &[599, 256, 255, 0]);
     check_least(&rt, &set, 8, &mut pages, &[0, 255, 256, 599]);
     check_greatest(&rt, &set, 0, &mut pages, &[]);
-    Ok(())
 }

@@ -1,9 +1,9 @@
 // Worked examples of prices and of the winner tree.
 ghost use Rattle.std.specs.Prelude.{◌≡◌, ◌≤◌};
 
+use super::check_eq;
 use std::cmp::Ordering;
 use std::process::Abort;
-use std::test::Fail;
 use vm_tax::{Greatest, Price, Winners, cmp_price};
 
 // Shares, pages and active fraction, at one tax.
@@ -25,32 +25,36 @@ fn price(shares: u32, pages: u32, active: u32) -> Price
 
 // Asserts where the least price stands.
 fn check_least(rt: &impl Abort, winners: &Winners, want: Option<u32>) {
-    assert_eq!(rt; winners.least(), want);
+    check_eq(rt, winners.least(), want);
 }
 
 // Asserts where the greatest price stands.
 fn check_greatest(rt: &impl Abort, greatest: &Greatest, want: Option<u32>) {
-    assert_eq!(rt; greatest.greatest(), want);
+    check_eq(rt, greatest.greatest(), want);
 }
 
 #[test]
 fn prices_compare_as_fractions(rt: HostRuntime) {
     let active = 65536;
-    assert_eq!(rt;
+    check_eq(
+        &rt,
         cmp_price(&price(100, 10, active), &price(100, 5, 0)),
-        Ordering::Greater
+        Ordering::Greater,
     );
-    assert_eq!(rt;
+    check_eq(
+        &rt,
         cmp_price(&price(100, 3, active), &price(199, 6, active)),
-        Ordering::Greater
+        Ordering::Greater,
     );
-    assert_eq!(rt;
+    check_eq(
+        &rt,
         cmp_price(&price(100, 5, active), &price(200, 10, active)),
-        Ordering::Equal
+        Ordering::Equal,
     );
-    assert_eq!(rt;
+    check_eq(
+        &rt,
         cmp_price(&price(100, 6, active), &price(100, 5, active)),
-        Ordering::Less
+        Ordering::Less,
     );
 }
 
@@ -68,7 +72,7 @@ fn greatest_products_compare(rt: HostRuntime) {
         active: 0,
         tax: 0,
     };
-    assert_eq!(rt; cmp_price(&more, &less), Ordering::Less);
+    check_eq(&rt, cmp_price(&more, &less), Ordering::Less);
 }
 
 // Asserts that a page with the first active fraction and so many shares is worth as much as an idle one with those of the second.
@@ -90,7 +94,7 @@ fn assert_worth(rt: &impl Abort, tax: u32, active: u32, shares: u32, idle_shares
         active: 0,
         tax,
     };
-    assert_eq!(rt; cmp_price(&used, &idle), Ordering::Equal);
+    check_eq(rt, cmp_price(&used, &idle), Ordering::Equal);
 }
 
 // A used page weighs less than an idle one: at 75 percent a quarter, at 99 a hundredth, at 99.99 a ten-thousandth.
@@ -105,32 +109,30 @@ fn used_pages_weigh_less(rt: HostRuntime) {
 }
 
 #[test]
-fn winners_follow_changes(rt: HostRuntime) -> Result<(), Fail> {
+fn winners_follow_changes(rt: HostRuntime) {
     let prices = [Some(price(100, 10, 65536)), Some(price(100, 5, 0))];
-    let mut winners = Winners::new(rt.alloc(), &prices)?;
+    let mut winners = Winners::new(rt.alloc(), &prices).expect(&rt, "memory");
     check_least(&rt, &winners, Some(1));
     winners.set(1, None);
     check_least(&rt, &winners, Some(0));
     winners.set(0, None);
     check_least(&rt, &winners, None);
-    Ok(())
 }
 
 #[test]
-fn equal_prices_go_to_the_lower_position(rt: HostRuntime) -> Result<(), Fail> {
+fn equal_prices_go_to_the_lower_position(rt: HostRuntime) {
     let prices = [Some(price(100, 5, 65536)), Some(price(100, 5, 65536))];
-    let winners = Winners::new(rt.alloc(), &prices)?;
+    let winners = Winners::new(rt.alloc(), &prices).expect(&rt, "memory");
     check_least(&rt, &winners, Some(0));
-    Ok(())
 }
 
 #[test]
-fn any_number_of_positions(rt: HostRuntime) -> Result<(), Fail> {
+fn any_number_of_positions(rt: HostRuntime) {
     let pages = |pages: u32| -> Option<Price>
         requires { (1 ≤ pages) × (pages ≤ 262144) }
     { Some(price(100, pages, 65536)) };
     let prices = [pages(3), pages(9), None, pages(9), pages(5)];
-    let mut winners = Winners::new(rt.alloc(), &prices)?;
+    let mut winners = Winners::new(rt.alloc(), &prices).expect(&rt, "memory");
     check_least(&rt, &winners, Some(1));
     winners.set(1, pages(8));
     check_least(&rt, &winners, Some(3));
@@ -139,25 +141,23 @@ fn any_number_of_positions(rt: HostRuntime) -> Result<(), Fail> {
     winners.set(2, None);
     winners.set(3, None);
     check_least(&rt, &winners, Some(1));
-    Ok(())
 }
 
 #[test]
-fn no_positions(rt: HostRuntime) -> Result<(), Fail> {
-    let winners = Winners::new(rt.alloc(), &[])?;
+fn no_positions(rt: HostRuntime) {
+    let winners = Winners::new(rt.alloc(), &[]).expect(&rt, "memory");
     check_least(&rt, &winners, None);
-    Ok(())
 }
 
 #[test]
-fn greatest_follows_changes(rt: HostRuntime) -> Result<(), Fail> {
+fn greatest_follows_changes(rt: HostRuntime) {
     let prices = [
         Some(price(100, 5, 0)),
         Some(price(100, 10, 65536)),
         None,
         Some(price(200, 20, 65536)),
     ];
-    let mut greatest = Greatest::new(rt.alloc(), &prices)?;
+    let mut greatest = Greatest::new(rt.alloc(), &prices).expect(&rt, "memory");
     // The lower of two equal ones.
     check_greatest(&rt, &greatest, Some(1));
     greatest.set(1, None);
@@ -169,12 +169,10 @@ fn greatest_follows_changes(rt: HostRuntime) -> Result<(), Fail> {
     check_greatest(&rt, &greatest, Some(0));
     greatest.set(0, None);
     check_greatest(&rt, &greatest, None);
-    Ok(())
 }
 
 #[test]
-fn greatest_of_no_positions(rt: HostRuntime) -> Result<(), Fail> {
-    let greatest = Greatest::new(rt.alloc(), &[])?;
+fn greatest_of_no_positions(rt: HostRuntime) {
+    let greatest = Greatest::new(rt.alloc(), &[]).expect(&rt, "memory");
     check_greatest(&rt, &greatest, None);
-    Ok(())
 }

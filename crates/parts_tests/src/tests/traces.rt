@@ -1,14 +1,13 @@
 // The table of steps and faults, and a trace.
-use super::check_eq;
-use std::alloc::Global;
+use super::{check_eq, check_words};
+use std::alloc::{AllocError, Global};
 use std::process::Abort;
-use std::test::Fail;
 use vm_trace::{Action, Bytes, Queue, Trace, TraceError, parse_step, parse_step_within};
 
 // Asserts that each of these texts has this as its first fault.
 fn check_faults(rt: &impl Abort, fault: TraceError, texts: &[&str]) {
     for &text in texts {
-        assert_eq!(rt; parse_step(text), Err(fault), "at {text:?}");
+        check_eq(rt, (text, parse_step(text).err()), (text, Some(fault)));
     }
 }
 
@@ -54,54 +53,59 @@ fn first_faults(rt: HostRuntime) {
     );
 }
 
+// Asserts what the step of a text is to do.
+fn check_action(rt: &impl Abort, text: &str, wanted: Action) {
+    let step = parse_step(text).expect(rt, "a step");
+    check_eq(rt, step.action(), wanted);
+}
+
 #[test]
-fn steps_are_read(rt: HostRuntime) -> Result<(), Fail> {
-    check_eq(&rt, parse_step("i")?.action(), Action::Idle);
-    check_eq(&rt, parse_step("f 0")?.action(), Action::Free { page: 0 });
+fn steps_are_read(rt: HostRuntime) {
+    check_action(&rt, "i", Action::Idle);
+    check_action(&rt, "f 0", Action::Free { page: 0 });
     let read = Action::Read {
         page: 65535,
         offset: 4080,
         len: 16,
     };
-    check_eq(&rt, parse_step("r 0000065535 4080 16")?.action(), read);
+    check_action(&rt, "r 0000065535 4080 16", read);
     let last_page = Action::Free { page: 262143 };
-    check_eq(
-        &rt,
-        parse_step_within("f 262143", 262144)?.action(),
-        last_page,
-    );
-    let Action::Post { queue, bytes } = parse_step("p d 03000000")?.action() else {
-        return Err(Fail::from("no post"));
-    };
-    check_eq(&rt, queue, Queue::Deflate);
+    let free = parse_step_within("f 262143", 262144).expect(&rt, "a step");
+    check_eq(&rt, free.action(), last_page);
+    let bytes = Bytes::from_slice(&[3, 0, 0, 0]);
     check_eq(&rt, bytes.as_slice(), [3, 0, 0, 0].as_slice());
-    Ok(())
+    let queue = Queue::Deflate;
+    check_action(&rt, "p d 03000000", Action::Post { queue, bytes });
 }
 
 #[test]
-fn writes_are_read(rt: HostRuntime) -> Result<(), Fail> {
+fn writes_are_read(rt: HostRuntime) {
     let two = Action::Write {
         page: 0,
         offset: 0,
         bytes: Bytes::from_slice(&[0xff, 0xfe]),
     };
-    check_eq(&rt, parse_step("w 0 0 FFfe")?.action(), two);
+    check_action(&rt, "w 0 0 FFfe", two);
     let last = Action::Write {
         page: 0,
         offset: 4095,
         bytes: Bytes::from_slice(&[0xff]),
     };
-    check_eq(&rt, parse_step("w 0 4095 ff")?.action(), last);
-    Ok(())
+    check_action(&rt, "w 0 4095 ff", last);
+}
+
+// Asserts whether the step of a text is one of a guest of so many pages.
+fn check_within(rt: &impl Abort, text: &str, pages: u32, wanted: bool) {
+    let step = parse_step(text).expect(rt, "a step");
+    check_eq(rt, step.is_within(pages), wanted);
 }
 
 #[test]
-fn pages_are_compared(rt: HostRuntime) -> Result<(), Fail> {
-    check_eq(&rt, parse_step("f 7")?.is_within(8), true);
-    check_eq(&rt, parse_step("f 7")?.is_within(7), false);
-    check_eq(&rt, parse_step("w 7 0 ff")?.is_within(7), false);
-    check_eq(&rt, parse_step("p i 07000000")?.is_within(1), true);
-    Ok(())
+fn pages_are_compared(rt: HostRuntime) {
+    check_within(&rt, "f 7", 8, true);
+    check_within(&rt, "f 7", 7, false);
+    check_within(&rt, "w 7 0 ff", 7, false);
+    check_within(&rt, "p i 07000000", 1, true);
 }
 
 #[test]
@@ -113,37 +117,46 @@ fn bytes_lie_in_place(rt: HostRuntime) {
     check_eq(&rt, Bytes::from_slice(&[]).is_empty(), true);
 }
 
-#[test]
-fn posts_have_at_most_64_bytes(rt: HostRuntime) -> Result<(), Fail> {
-    let alloc = rt.alloc();
+// The fault of a step that posts so many bytes.
+fn post_fault(alloc: Global, bytes: usize) -> Result<Option<TraceError>, AllocError> {
     let mut text = String::from_str(alloc, "p i ")?;
-    for _ in 0..64 {
+    for _ in 0..bytes {
         text.push_str("ff")?;
     }
-    check_eq(&rt, parse_step(text.as_str()).is_ok(), true);
-    text.push_str("ff")?;
-    check_eq(&rt, parse_step(text.as_str()), Err(TraceError::Length));
-    Ok(())
+    Ok(parse_step(text.as_str()).err())
 }
 
 #[test]
-fn traces_keep_their_order(rt: HostRuntime) -> Result<(), Fail> {
+fn posts_have_at_most_64_bytes(rt: HostRuntime) {
+    check_eq(&rt, post_fault(rt.alloc(), 64), Ok(None));
+    let fault = Some(TraceError::Length);
+    check_eq(&rt, post_fault(rt.alloc(), 65), Ok(fault));
+}
+
+// Adds a step for each text to a trace without any, and asserts that it has these and no others.
+fn check_steps(rt: &impl Abort, trace: &mut Trace, texts: &[&str]) {
+    check_eq(rt, trace.is_empty(), true);
+    for &text in texts {
+        let step = parse_step_within(text, 262144).expect(rt, "a step");
+        trace.push(step).expect(rt, "memory");
+    }
+    check_eq(rt, trace.is_empty(), false);
+    check_eq(rt, trace.len(), texts.len());
+    for (place, &text) in texts.iter().enumerate() {
+        let step = parse_step_within(text, 262144).expect(rt, "a step");
+        check_eq(rt, trace.step(place), Some(step));
+    }
+    check_eq(rt, trace.step(texts.len()), None);
+}
+
+#[test]
+fn traces_keep_their_order(rt: HostRuntime) {
     let mut trace = Trace::new(rt.alloc());
-    check_eq(&rt, trace.is_empty(), true);
-    let free = parse_step("f 3")?;
-    let idle = parse_step("i")?;
-    trace.push(free)?;
-    trace.push(idle)?;
-    check_eq(&rt, trace.is_empty(), false);
-    check_eq(&rt, trace.len(), 2);
-    check_eq(&rt, trace.step(0), Some(free));
-    check_eq(&rt, trace.step(1), Some(idle));
-    check_eq(&rt, trace.step(2), None);
-    Ok(())
+    check_steps(&rt, &mut trace, &["f 3", "i"]);
 }
 
 #[test]
-fn traces_keep_the_bytes_of_each_step(rt: HostRuntime) -> Result<(), Fail> {
+fn traces_keep_the_bytes_of_each_step(rt: HostRuntime) {
     let texts = [
         "w 262143 4080 000102030405060708090a0b0c0d0e0f",
         "p s 000102",
@@ -153,52 +166,28 @@ fn traces_keep_the_bytes_of_each_step(rt: HostRuntime) -> Result<(), Fail> {
         "f 2",
         "p d 03000000",
     ];
-    let mut trace = Trace::with_capacity(rt.alloc(), 2)?;
-    check_eq(&rt, trace.is_empty(), true);
-    for text in texts {
-        trace.push(parse_step_within(text, 262144)?)?;
-    }
-    check_eq(&rt, trace.len(), 7);
+    let mut trace = Trace::with_capacity(rt.alloc(), 2).expect(&rt, "memory");
+    check_steps(&rt, &mut trace, &texts);
     let last_byte = Action::Write {
         page: 0,
         offset: 4095,
         bytes: Bytes::from_slice(&[0xff]),
     };
-    check_eq(
-        &rt,
-        trace.step(3).map(|step| step.action()),
-        Some(last_byte),
-    );
-    for (place, text) in texts.iter().enumerate() {
-        check_eq(
-            &rt,
-            trace.step(place),
-            Some(parse_step_within(text, 262144)?),
-        );
-    }
-    Ok(())
-}
-
-// Asserts the number of a fault, and how it reads.
-fn check_fault(
-    rt: &impl Abort,
-    alloc: Global,
-    fault: TraceError,
-    number: u8,
-    wanted: &str,
-) -> Result<(), Fail> {
-    let words = fault.to_string(alloc)?;
-    assert_eq!(rt; (fault as u8, words.as_str()), (number, wanted));
-    Ok(())
+    let step = trace.step(3).expect(&rt, "a step");
+    check_eq(&rt, step.action(), last_byte);
 }
 
 #[test]
-fn faults_read(rt: HostRuntime) -> Result<(), Fail> {
+fn faults_read(rt: HostRuntime) {
     let alloc = rt.alloc();
-    check_fault(&rt, alloc, TraceError::Unknown, 1, "unknown step")?;
-    check_fault(&rt, alloc, TraceError::Number, 2, "not a number")?;
-    check_fault(&rt, alloc, TraceError::Range, 3, "out of range")?;
-    check_fault(&rt, alloc, TraceError::Hex, 4, "not hexadecimal bytes")?;
-    check_fault(&rt, alloc, TraceError::Length, 5, "too many bytes")?;
-    Ok(())
+    check_eq(&rt, TraceError::Unknown as u8, 1);
+    check_eq(&rt, TraceError::Number as u8, 2);
+    check_eq(&rt, TraceError::Range as u8, 3);
+    check_eq(&rt, TraceError::Hex as u8, 4);
+    check_eq(&rt, TraceError::Length as u8, 5);
+    check_words(&rt, alloc, TraceError::Unknown, "unknown step");
+    check_words(&rt, alloc, TraceError::Number, "not a number");
+    check_words(&rt, alloc, TraceError::Range, "out of range");
+    check_words(&rt, alloc, TraceError::Hex, "not hexadecimal bytes");
+    check_words(&rt, alloc, TraceError::Length, "too many bytes");
 }
