@@ -127,18 +127,18 @@ fn is_blocked(pool: &Pool, position: usize) -> Option<bool> {
 
 // Asserts that the first guest may run, or may not.
 fn check_blocked(rt: &impl Abort, pool: &Pool, blocked: bool) {
-    assert_eq!(rt; is_blocked(pool, 0), Some(blocked));
+    check_eq(rt, is_blocked(pool, 0), Some(blocked));
 }
 
 // Asserts the target of the first guest, the frames that it holds, and how many are free.
 fn check_frames(rt: &impl Abort, pool: &Pool, frames: (u32, u32), free: u32) {
-    assert_eq!(rt; (frames_of(pool, 0), pool.free()), (Some(frames), free));
+    check_eq(rt, (frames_of(pool, 0), pool.free()), (Some(frames), free));
 }
 
 // Asserts this of the first guest as `check_frames` does, and how many pages of the swap area are set aside for it.
 fn check_reserve(rt: &impl Abort, pool: &Pool, frames: (u32, u32), free: u32, reserve: u32) {
     check_frames(rt, pool, frames, free);
-    assert_eq!(rt; pool.reserve(0), Some(reserve));
+    check_eq(rt, pool.reserve(0), Some(reserve));
 }
 
 // Sets the minimum of a guest.
@@ -307,7 +307,11 @@ fn done(pool: &Pool, position: usize) -> Option<u32> {
 // Asserts how many steps the first guest and the second have done.
 fn check_done(rt: &impl Abort, pool: &Pool, steps: [u32; 2]) {
     let [first, second] = steps;
-    assert_eq!(rt; (done(pool, 0), done(pool, 1)), (Some(first), Some(second)));
+    check_eq(
+        rt,
+        (done(pool, 0), done(pool, 1)),
+        (Some(first), Some(second)),
+    );
 }
 
 #[test]
@@ -454,10 +458,10 @@ fn runs(rt: &(impl AllocGlobal + Threads + Sync), pool: &mut Pool) -> bool {
 // Where an epoch of the first guest lacked memory, no step was done, and where a lower minimum did, the reserve is as before.
 fn check_refusals(rt: &(impl AllocGlobal + Abort + Threads + Sync), pool: &mut Pool) {
     let ran = runs(rt, pool);
-    assert_eq!(rt; done(pool, 0), Some(u32::from(ran)));
-    assert!(rt; sets_min(rt, pool, 0, 5));
+    check_eq(rt, done(pool, 0), Some(u32::from(ran)));
+    set_min(rt, pool, 0, 5);
     let set = sets_min(rt, pool, 0, 2);
-    assert_eq!(rt; pool.reserve(0), Some(if set { 6 } else { 4 }));
+    check_eq(rt, pool.reserve(0), Some(if set { 6 } else { 4 }));
 }
 
 // At each request for memory that fails in turn, the call that made it changes nothing. A raised minimum makes none.
@@ -465,8 +469,8 @@ fn check_refusals(rt: &(impl AllocGlobal + Abort + Threads + Sync), pool: &mut P
 fn where_memory_is_refused_nothing_changes(rt: HostRuntime) -> Result<(), Fail> {
     let mut pool = two_guests(&rt, 1)?;
     let started = starts(&rt, &mut pool, 0);
-    assert_eq!(rt; pool.is_running(0), started);
-    assert_eq!(rt; pool.free(), if started { 15 } else { 20 });
+    let free = if started { 15 } else { 20 };
+    check_eq(&rt, (pool.is_running(0), pool.free()), (started, free));
     if started {
         check_refusals(&rt, &mut pool);
     }
