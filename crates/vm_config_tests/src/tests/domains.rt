@@ -2,9 +2,9 @@ ghost use Rattle.std.specs.Prelude.{◌≤◌};
 
 mod limits;
 
+use super::check_eq;
 use std::alloc::Global;
 use std::process::Abort;
-use std::test::Fail;
 use vm_domains::{Domains, GuestSpec, MachineSpec, Names, Percents};
 use vm_trace::Trace;
 
@@ -28,63 +28,57 @@ fn guest_of(alloc: Global, min: u32) -> GuestSpec
     }
 }
 
-// Adds a domain under a new name.
-fn add_domain(domains: &mut Domains, name: &str, spec: GuestSpec) -> Result<(), Fail> {
-    if domains.len() >= 256 || domains.position(name).is_some() {
-        return Err(Fail::from("no room for the name"));
-    }
-    if domains.push(name, spec).is_err() {
-        return Err(Fail::from("memory"));
-    }
-    Ok(())
+// Adds a guest of 4 pages with this minimum under a new name.
+fn add_domain(rt: &(impl AllocGlobal + Abort), domains: &mut Domains, name: &str, min: u32)
+    requires some_frames { 1 ≤ min }
+    requires few_frames { min ≤ 4 }
+{
+    let added = domains.len() < 256
+        && domains.position(name).is_none()
+        && domains.push(name, guest_of(rt.alloc(), min)).is_ok();
+    check_eq(rt, (name, added), (name, true));
 }
 
 // Two guests, whose names differ in one letter.
-fn two_domains(alloc: Global) -> Result<Domains, Fail> {
-    let mut domains = Domains::new(alloc);
-    add_domain(&mut domains, "web", guest_of(alloc, 1))?;
-    add_domain(&mut domains, "Web", guest_of(alloc, 2))?;
-    Ok(domains)
+fn two_domains(rt: &(impl AllocGlobal + Abort)) -> Domains {
+    let mut domains = Domains::new(rt.alloc());
+    add_domain(rt, &mut domains, "web", 1);
+    add_domain(rt, &mut domains, "Web", 2);
+    domains
 }
 
-fn assert_len(rt: &impl Abort, domains: &Domains, len: usize) {
-    assert_eq!(rt; domains.len(), len);
+// Asserts how many guests there are, and where each name is.
+fn assert_two_domains(rt: &impl Abort, domains: &Domains) {
+    check_eq(rt, domains.len(), 2);
+    check_eq(rt, domains.position("web"), Some(0));
+    check_eq(rt, domains.position("Web"), Some(1));
+    check_eq(rt, domains.position("we"), None);
 }
 
-fn assert_position(rt: &impl Abort, domains: &Domains, name: &str, position: Option<usize>) {
-    assert_eq!(rt; domains.position(name), position, "of {name}");
-}
-
-// The names of the two guests, without them.
-fn assert_two_names(rt: &impl Abort, names: &Names) {
-    assert_eq!(rt; names.len(), 2);
-    assert_eq!(rt; names.position("Web"), Some(1));
-    assert_eq!(rt; names.get(0), Some("web"));
-    assert_eq!(rt; names.get(2), None);
-}
-
-fn assert_minima(rt: &impl Abort, specs: &[GuestSpec], wanted: [u32; 2]) {
-    let mut minima = [0; 2];
-    for (place, spec) in specs.iter().enumerate().take(2) {
-        minima[place] = spec.min;
+// The minima of the guests, where they are two.
+fn minima_of(specs: &[GuestSpec]) -> Option<[u32; 2]> {
+    match specs {
+        [first, second] => Some([first.min, second.min]),
+        _ => None,
     }
-    assert_eq!(rt; minima, wanted);
+}
+
+// Asserts the names of the two guests, without them, and the minima of both.
+fn assert_two_parts(rt: &impl Abort, names: &Names, specs: &[GuestSpec]) {
+    check_eq(rt, names.len(), 2);
+    check_eq(rt, names.position("Web"), Some(1));
+    check_eq(rt, names.get(0), Some("web"));
+    check_eq(rt, names.get(2), None);
+    check_eq(rt, minima_of(specs), Some([1, 2]));
 }
 
 #[test]
-fn domains_are_found_by_their_names(rt: HostRuntime) -> Result<(), Fail> {
-    let domains = two_domains(rt.alloc())?;
-    assert_len(&rt, &domains, 2);
-    assert_position(&rt, &domains, "web", Some(0));
-    assert_position(&rt, &domains, "Web", Some(1));
-    assert_position(&rt, &domains, "we", None);
+fn domains_are_found_by_their_names(rt: HostRuntime) {
+    let domains = two_domains(&rt);
+    assert_two_domains(&rt, &domains);
     let (names, specs) = domains.into_parts();
-    assert_two_names(&rt, &names);
-    assert_minima(&rt, &specs, [1, 2]);
-    let domains = Domains::from_parts(names, specs);
-    assert_len(&rt, &domains, 2);
-    assert_position(&rt, &domains, "Web", Some(1));
-    Ok(())
+    assert_two_parts(&rt, &names, &specs);
+    assert_two_domains(&rt, &Domains::from_parts(names, specs));
 }
 
 #[test]
@@ -102,5 +96,5 @@ fn a_machine_may_be_the_greatest(rt: HostRuntime) {
         },
         page_rate: 256,
     };
-    assert_eq!(rt; machine.percent.soft, 10_000);
+    check_eq(&rt, machine.percent.soft, 10_000);
 }

@@ -1,29 +1,12 @@
 // Where a fault stands in a text.
-use std::alloc::{AllocError, Global};
+use super::{check_eq, check_words};
 use std::process::Abort;
-use std::test::Fail;
 use vm_config::{ConfigError, Fault, Key, Part, Place, TraceError, explain};
 
 // Asserts the first fault of a text, or that there is none.
 fn assert_first_fault(rt: &(impl AllocGlobal + Abort), text: &str, wanted: Option<Fault>) {
     let found = explain(rt.alloc(), text.as_bytes()).expect(rt, "there is memory");
-    assert_eq!(rt; found, wanted, "{text}");
-}
-
-fn assert_name(rt: &impl Abort, key: Key, name: &str) {
-    assert_eq!(rt; key.name(), name);
-}
-
-// Asserts what a fault is printed as.
-fn assert_words(
-    rt: &impl Abort,
-    alloc: Global,
-    fault: &Fault,
-    wanted: &str,
-) -> Result<(), AllocError> {
-    let words = format!(in alloc; "{fault}")?;
-    assert_eq!(rt; words.as_str(), wanted);
-    Ok(())
+    check_eq(rt, (text, found), (text, wanted));
 }
 
 // A configuration of version 2 with two guests of 4 pages and two commands, with these keys at the end of the root, of guest 1
@@ -44,53 +27,76 @@ fn null_at(rt: &(impl AllocGlobal + Abort), key: &str) -> String {
     format!(in alloc; ",\"{key}\":null").expect(rt, "there is memory")
 }
 
+// Asserts the first fault, in the order of the tables, of these keys of the root, of guest 1 and of command 1, and where it is.
+fn assert_fault(
+    rt: &(impl AllocGlobal + Abort),
+    root: &str,
+    guest: &str,
+    command: &str,
+    error: ConfigError,
+    part: Part,
+    key: Key,
+) {
+    let text = text_with(rt, root, guest, command);
+    let place = Place::Key { part, key };
+    assert_first_fault(rt, &text, Some(Fault { error, place }));
+}
+
+// Asserts that a key is the place of a value that is of another kind.
+fn assert_place(rt: &(impl AllocGlobal + Abort), part: Part, key: Key, value: &str) {
+    let kind = ConfigError::Kind;
+    match part {
+        Part::Root => assert_fault(rt, value, "", "", kind, part, key),
+        Part::Guest(_) => assert_fault(rt, "", value, "", kind, part, key),
+        Part::Command(_) => assert_fault(rt, "", "", value, kind, part, key),
+    }
+}
+
 // Asserts that each of these keys of a part is a place, where a value that is null is no value of its kind.
 fn assert_places(rt: &(impl AllocGlobal + Abort), part: Part, keys: &[(Key, &str)]) {
     for &(key, name) in keys {
-        let null = null_at(rt, name);
-        let text = match part {
-            Part::Root => text_with(rt, &null, "", ""),
-            Part::Guest(_) => text_with(rt, "", &null, ""),
-            Part::Command(_) => text_with(rt, "", "", &null),
-        };
-        let error = ConfigError::Kind;
-        let place = Place::Key { part, key };
-        assert_first_fault(rt, &text, Some(Fault { error, place }));
-        assert_name(rt, key, name);
+        assert_place(rt, part, key, &null_at(rt, name));
+        check_eq(rt, key.name(), name);
     }
 }
 
 #[test]
 fn each_key_is_a_place(rt: HostRuntime) {
-    let root = [
-        (Key::Version, "version"),
-        (Key::Frames, "frames"),
-        (Key::Swap, "swap"),
-        (Key::Overhead, "overhead"),
-        (Key::Tax, "tax"),
-        (Key::Percent, "percent"),
-        (Key::PageRate, "page_rate"),
-        (Key::Quantum, "quantum"),
-        (Key::Epochs, "epochs"),
-        (Key::Guests, "guests"),
-        (Key::Commands, "commands"),
-    ];
-    assert_places(&rt, Part::Root, &root);
-    let guest = [
-        (Key::Name, "name"),
-        (Key::Size, "size"),
-        (Key::Min, "min"),
-        (Key::Shares, "shares"),
-        (Key::Samples, "samples"),
-        (Key::Period, "period"),
-        (Key::Rate, "rate"),
-        (Key::Seed, "seed"),
-        (Key::Stream, "stream"),
-        (Key::Autostart, "autostart"),
-        (Key::Tell, "tell"),
-        (Key::Trace, "trace"),
-    ];
-    assert_places(&rt, Part::Guest(1), &guest);
+    assert_places(
+        &rt,
+        Part::Root,
+        &[
+            (Key::Version, "version"),
+            (Key::Frames, "frames"),
+            (Key::Swap, "swap"),
+            (Key::Overhead, "overhead"),
+            (Key::Tax, "tax"),
+            (Key::Percent, "percent"),
+            (Key::PageRate, "page_rate"),
+            (Key::Quantum, "quantum"),
+            (Key::Epochs, "epochs"),
+            (Key::Guests, "guests"),
+            (Key::Commands, "commands"),
+        ],
+    );
+    assert_places(
+        &rt,
+        Part::Guest(1),
+        &[
+            (Key::Name, "name"),
+            (Key::Size, "size"),
+            (Key::Min, "min"),
+            (Key::Shares, "shares"),
+            (Key::Samples, "samples"),
+            (Key::Period, "period"),
+            (Key::Rate, "rate"),
+            (Key::Seed, "seed"),
+            (Key::Stream, "stream"),
+            (Key::Autostart, "autostart"),
+            (Key::Tell, "tell"),
+            (Key::Trace, "trace"),
+        ],
+    );
     assert_places(
         &rt,
         Part::Command(1),
@@ -104,39 +110,31 @@ const UNKNOWN_STEP: ConfigError = ConfigError::Trace {
     fault: TraceError::Unknown,
 };
 
-// Asserts the first fault, in the order of the tables, of these keys of the root, of guest 1 and of command 1, and where it is.
-fn assert_fault(
-    rt: &(impl AllocGlobal + Abort),
-    keys: [&str; 3],
-    error: ConfigError,
-    part: Part,
-    key: Key,
-) {
-    let [root, guest, command] = keys;
-    let text = text_with(rt, root, guest, command);
-    let place = Place::Key { part, key };
-    assert_first_fault(rt, &text, Some(Fault { error, place }));
-}
-
 #[test]
 fn the_first_fault_is_in_the_root(rt: HostRuntime) {
     assert_fault(
         &rt,
-        [",\"swap\":null,\"frames\":0", "", ""],
+        ",\"swap\":null,\"frames\":0",
+        "",
+        "",
         ConfigError::Range,
         Part::Root,
         Key::Frames,
     );
     assert_fault(
         &rt,
-        [",\"guests\":[1]", "", ",\"at\":\"\""],
+        ",\"guests\":[1]",
+        "",
+        ",\"at\":\"\"",
         ConfigError::Kind,
         Part::Root,
         Key::Guests,
     );
     assert_fault(
         &rt,
-        [",\"commands\":1", ",\"size\":0", ""],
+        ",\"commands\":1",
+        ",\"size\":0",
+        "",
         ConfigError::Kind,
         Part::Root,
         Key::Commands,
@@ -147,35 +145,45 @@ fn the_first_fault_is_in_the_root(rt: HostRuntime) {
 fn the_first_fault_is_in_a_guest(rt: HostRuntime) {
     assert_fault(
         &rt,
-        [",\"guests\":[{}]", "", ""],
+        ",\"guests\":[{}]",
+        "",
+        "",
         ConfigError::Missing,
         Part::Guest(0),
         Key::Name,
     );
     assert_fault(
         &rt,
-        [",\"guests\":[{\"name\":\"a\",\"size\":1},{}]", "", ""],
+        ",\"guests\":[{\"name\":\"a\",\"size\":1},{}]",
+        "",
+        "",
         ConfigError::Missing,
         Part::Guest(0),
         Key::Min,
     );
     assert_fault(
         &rt,
-        ["", ",\"min\":5", ",\"at\":null"],
+        "",
+        ",\"min\":5",
+        ",\"at\":null",
         ConfigError::Range,
         Part::Guest(1),
         Key::Min,
     );
     assert_fault(
         &rt,
-        ["", ",\"size\":0,\"name\":\"-\"", ""],
+        "",
+        ",\"size\":0,\"name\":\"-\"",
+        "",
         ConfigError::Name,
         Part::Guest(1),
         Key::Name,
     );
     assert_fault(
         &rt,
-        ["", ",\"name\":\"a\"", ""],
+        "",
+        ",\"name\":\"a\"",
+        "",
         ConfigError::Twice,
         Part::Guest(1),
         Key::Name,
@@ -186,21 +194,27 @@ fn the_first_fault_is_in_a_guest(rt: HostRuntime) {
 fn the_first_fault_is_in_a_choice_or_in_a_trace(rt: HostRuntime) {
     assert_fault(
         &rt,
-        ["", ",\"trace\":[\"x\"],\"tell\":1", ""],
+        "",
+        ",\"trace\":[\"x\"],\"tell\":1",
+        "",
         ConfigError::Kind,
         Part::Guest(1),
         Key::Tell,
     );
     assert_fault(
         &rt,
-        ["", ",\"trace\":[\"x\",1]", ""],
+        "",
+        ",\"trace\":[\"x\",1]",
+        "",
         ConfigError::Kind,
         Part::Guest(1),
         Key::Trace,
     );
     assert_fault(
         &rt,
-        ["", ",\"trace\":[\"i\",\"i\",\"x\"]", ""],
+        "",
+        ",\"trace\":[\"i\",\"i\",\"x\"]",
+        "",
         UNKNOWN_STEP,
         Part::Guest(1),
         Key::Trace,
@@ -211,21 +225,27 @@ fn the_first_fault_is_in_a_choice_or_in_a_trace(rt: HostRuntime) {
 fn the_first_fault_is_in_a_command(rt: HostRuntime) {
     assert_fault(
         &rt,
-        ["", "", ",\"line\":\"\",\"at\":10000"],
+        "",
+        "",
+        ",\"line\":\"\",\"at\":10000",
         ConfigError::Range,
         Part::Command(1),
         Key::At,
     );
     assert_fault(
         &rt,
-        ["", "", ",\"line\":\"\""],
+        "",
+        "",
+        ",\"line\":\"\"",
         ConfigError::Range,
         Part::Command(1),
         Key::Line,
     );
     assert_fault(
         &rt,
-        [",\"commands\":[{}]", "", ""],
+        ",\"commands\":[{}]",
+        "",
+        "",
         ConfigError::Missing,
         Part::Command(0),
         Key::At,
@@ -276,52 +296,34 @@ const RAGGED_STEP: ConfigError = ConfigError::Trace {
     fault: TraceError::Hex,
 };
 
-const FAULTS: [(ConfigError, Place, &str); 6] = [
-    (
-        ConfigError::NotJson,
-        Place::Text,
-        "the text: not a JSON text",
-    ),
-    (ConfigError::Kind, Place::Text, "the text: not an object"),
-    (
-        ConfigError::Missing,
-        Place::Key {
-            part: Part::Root,
-            key: Key::Frames,
-        },
-        "key \"frames\": a required key is absent",
-    ),
-    (
-        ConfigError::Kind,
-        Place::Key {
-            part: Part::Guest(3),
-            key: Key::Size,
-        },
-        "guest 3, key \"size\": a value is not of its key's kind",
-    ),
-    (
-        RAGGED_STEP,
-        Place::Key {
-            part: Part::Guest(2),
-            key: Key::Trace,
-        },
-        "guest 2, key \"trace\": step 5: not hexadecimal bytes",
-    ),
-    (
-        ConfigError::Range,
-        Place::Key {
-            part: Part::Command(0),
-            key: Key::Line,
-        },
-        "command 0, key \"line\": a value is outside its key's range",
-    ),
-];
+// Asserts what a fault is printed as.
+fn assert_printed(rt: &(impl AllocGlobal + Abort), error: ConfigError, place: Place, text: &str) {
+    check_words(rt, Fault { error, place }, text);
+}
+
+// Asserts what the fault of a key is printed as.
+fn assert_printed_at(
+    rt: &(impl AllocGlobal + Abort),
+    error: ConfigError,
+    part: Part,
+    key: Key,
+    text: &str,
+) {
+    assert_printed(rt, error, Place::Key { part, key }, text);
+}
 
 #[test]
-fn faults_have_texts_with_places(rt: HostRuntime) -> Result<(), Fail> {
-    for (error, place, text) in FAULTS {
-        let fault = Fault { error, place };
-        assert_words(&rt, rt.alloc(), &fault, text)?;
-    }
-    Ok(())
+fn faults_have_texts_with_places(rt: HostRuntime) {
+    let not_json = "the text: not a JSON text";
+    assert_printed(&rt, ConfigError::NotJson, Place::Text, not_json);
+    let no_object = "the text: not an object";
+    assert_printed(&rt, ConfigError::Kind, Place::Text, no_object);
+    let frames = "key \"frames\": a required key is absent";
+    assert_printed_at(&rt, ConfigError::Missing, Part::Root, Key::Frames, frames);
+    let size = "guest 3, key \"size\": a value is not of its key's kind";
+    assert_printed_at(&rt, ConfigError::Kind, Part::Guest(3), Key::Size, size);
+    let trace = "guest 2, key \"trace\": step 5: not hexadecimal bytes";
+    assert_printed_at(&rt, RAGGED_STEP, Part::Guest(2), Key::Trace, trace);
+    let line = "command 0, key \"line\": a value is outside its key's range";
+    assert_printed_at(&rt, ConfigError::Range, Part::Command(0), Key::Line, line);
 }

@@ -1,27 +1,36 @@
 // The greatest number of domains.
-use super::{add_domain, assert_len, assert_position, guest_of};
-use std::alloc::Global;
-use std::test::Fail;
+use super::add_domain;
+use crate::tests::check_eq;
+use std::process::Abort;
 use vm_domains::Domains;
 
 const MOST_DOMAINS: usize = 256;
 
-// Guests of these many names, g0 and so on.
-fn many_domains(alloc: Global, count: usize) -> Result<Domains, Fail> {
-    let mut domains = Domains::new(alloc);
+// Adds a guest under the name of a number, as g0.
+fn add_numbered(rt: &(impl AllocGlobal + Abort), domains: &mut Domains, number: usize) {
+    let alloc = rt.alloc();
+    let name = format!(in alloc; "g{number}").expect(rt, "there is memory");
+    add_domain(rt, domains, name.as_str(), 1);
+}
+
+// Adds guests of these many names, g0 and so on.
+fn add_many(rt: &(impl AllocGlobal + Abort), domains: &mut Domains, count: usize) {
     for number in 0..count {
-        let name = format!(in alloc; "g{number}")?;
-        add_domain(&mut domains, name.as_str(), guest_of(alloc, 1))?;
+        add_numbered(rt, domains, number);
     }
-    Ok(domains)
+}
+
+// Asserts that there are 256 guests, and where the first and the last one are.
+fn assert_most_domains(rt: &impl Abort, domains: &Domains) {
+    check_eq(rt, domains.len(), 256);
+    check_eq(rt, domains.position("g0"), Some(0));
+    check_eq(rt, domains.position("g255"), Some(255));
+    check_eq(rt, domains.position("g256"), None);
 }
 
 #[test]
-fn the_256th_domain_has_room(rt: HostRuntime) -> Result<(), Fail> {
-    let domains = many_domains(rt.alloc(), MOST_DOMAINS)?;
-    assert_len(&rt, &domains, 256);
-    assert_position(&rt, &domains, "g0", Some(0));
-    assert_position(&rt, &domains, "g255", Some(255));
-    assert_position(&rt, &domains, "g256", None);
-    Ok(())
+fn the_256th_domain_has_room(rt: HostRuntime) {
+    let mut domains = Domains::new(rt.alloc());
+    add_many(&rt, &mut domains, MOST_DOMAINS);
+    assert_most_domains(&rt, &domains);
 }
