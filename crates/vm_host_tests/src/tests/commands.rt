@@ -1,23 +1,21 @@
 // What becomes of command lines.
 ghost use Rattle.std.specs.Prelude.{◌≤◌};
 
-use super::lone_host::{
-    LoneHost, Told, assert_answers, assert_frames, assert_free, assert_reads, frames_of, quiet,
-    told_by,
-};
-use super::setup::{guest, machine, read};
+use super::lone_host::{LoneHost, Told, assert_frames, assert_reads, quiet};
+use super::setup::{check_eq, guest, machine, read};
 use std::process::Abort;
 use std::test::Fail;
 use std::thread::Threads;
-use vm_host::{Boundary, DomainStatistics, Host, MachineSpec, Outcome, Refusal, State, Stats};
+use vm_host::{DomainStatistics, MachineSpec, Outcome, Refusal, State, Stats};
 
 const DONE: Outcome = Outcome::Done;
 
 #[test]
 fn overhead(rt: HostRuntime) -> Result<(), Fail> {
+    let rt = &rt;
     let no_memory = Outcome::Refused(Refusal::NoMemory);
-    start_beside(&rt, 39, no_memory, quiet(State::High, 39), 1)?;
-    start_beside(&rt, 38, DONE, quiet(State::Low, 0), 2)?;
+    start_beside(rt, 39, no_memory, quiet(State::High, 39), 1)?;
+    start_beside(rt, 38, DONE, quiet(State::Low, 0), 2)?;
     Ok(())
 }
 
@@ -33,51 +31,27 @@ fn start_beside(
         overhead: 1,
         ..machine(100, 0)
     };
-    let mut lone = LoneHost::of_guests(
-        rt,
-        machine,
-        &[("a", guest(60, 60)), ("b", guest(min, min))],
-        &[],
-    )?;
-    let boundary = lone.round(rt, &["start a", "start b"]);
-    assert_answers(rt, &boundary, &[("start a", DONE), ("start b", outcome)]);
-    assert_told_for(rt, min, &boundary, told);
-    assert_free_for(rt, min, lone.host(), told.free);
-    assert_aside_for(rt, min, lone.host(), aside);
+    let guests = [("a", guest(60, 60)), ("b", guest(min, min))];
+    let mut lone = LoneHost::of_guests(rt, machine, &guests, &[])?;
+    lone.round_answers(rt, &[("start a", DONE), ("start b", outcome)], told);
+    let host = lone.host();
+    let found = (min, host.free(), host.overhead_frames());
+    check_eq(rt, found, (min, told.free, aside));
     lone.close();
     Ok(())
-}
-
-// Asserts what a boundary told in a case.
-fn assert_told_for(rt: &impl Abort, case: u32, boundary: &Boundary, told: Told) {
-    assert_eq!(rt; told_by(boundary), told, "{case}");
-}
-
-// Asserts how many frames are free in a case.
-fn assert_free_for(rt: &impl Abort, case: u32, host: &Host, free: u32) {
-    assert_eq!(rt; host.free(), free, "{case}");
-}
-
-// Asserts how many frames are in overhead in a case.
-fn assert_aside_for(rt: &impl Abort, case: u32, host: &Host, aside: u32) {
-    assert_eq!(rt; host.overhead_frames(), aside, "{case}");
-}
-
-// Asserts the target of the first guest in a case, and the frames that it holds.
-fn assert_frames_for(rt: &impl Abort, case: u32, host: &Host, frames: Option<(u32, u32)>) {
-    assert_eq!(rt; frames_of(host, 0), frames, "{case}");
 }
 
 // The swap area has to hold what a guest has above its minimum.
 #[test]
 fn reserves(rt: HostRuntime) -> Result<(), Fail> {
+    let rt = &rt;
     let granted = Told {
         granted: [12, 0],
         ..quiet(State::High, 96)
     };
-    start_with_swap(&rt, 12, DONE, granted, Some((16, 16)))?;
+    start_with_swap(rt, 12, DONE, granted, Some((16, 16)))?;
     let no_swap = Outcome::Refused(Refusal::NoSwap);
-    start_with_swap(&rt, 11, no_swap, quiet(State::High, 100), None)?;
+    start_with_swap(rt, 11, no_swap, quiet(State::High, 100), None)?;
     Ok(())
 }
 
@@ -92,17 +66,16 @@ fn start_with_swap(
     requires few_pages { swap ≤ 1000 }
 {
     let mut lone = LoneHost::of_guests(rt, machine(100, swap), &[("a", guest(16, 4))], &[])?;
-    let boundary = lone.round(rt, &["start a"]);
-    assert_answers(rt, &boundary, &[("start a", outcome)]);
-    assert_told_for(rt, swap, &boundary, told);
-    assert_frames_for(rt, swap, lone.host(), frames);
+    lone.round_answers(rt, &[("start a", outcome)], told);
+    assert_frames(rt, lone.host(), 0, frames);
     lone.close();
     Ok(())
 }
 
 #[test]
 fn lowered_reserves(rt: HostRuntime) -> Result<(), Fail> {
-    let mut lone = LoneHost::of_guests(&rt, machine(100, 12), &[("a", guest(16, 8))], &[])?;
+    let rt = &rt;
+    let mut lone = LoneHost::of_guests(rt, machine(100, 12), &[("a", guest(16, 8))], &[])?;
     let no_swap = Outcome::Refused(Refusal::NoSwap);
     let wanted = [
         ("start a", DONE),
@@ -114,16 +87,18 @@ fn lowered_reserves(rt: HostRuntime) -> Result<(), Fail> {
         granted: [8, 0],
         ..quiet(State::High, 92)
     };
-    lone.round_answers(&rt, &wanted, told);
-    assert_frames(&rt, lone.host(), 0, Some((16, 16)));
-    assert_free(&rt, lone.host(), 84);
+    lone.round_answers(rt, &wanted, told);
+    let host = lone.host();
+    assert_frames(rt, host, 0, Some((16, 16)));
+    check_eq(rt, host.free(), 84);
     lone.close();
     Ok(())
 }
 
 #[test]
 fn sizes(rt: HostRuntime) -> Result<(), Fail> {
-    let mut lone = LoneHost::of_guests(&rt, machine(1000, 200), &[("web", guest(300, 100))], &[])?;
+    let rt = &rt;
+    let mut lone = LoneHost::of_guests(rt, machine(1000, 200), &[("web", guest(300, 100))], &[])?;
     let wanted = [
         ("start web", DONE),
         ("setmem web 1MB", DONE),
@@ -139,28 +114,30 @@ fn sizes(rt: HostRuntime) -> Result<(), Fail> {
         granted: [45, 0],
         ..quiet(State::High, 800)
     };
-    lone.round_answers(&rt, &wanted, told);
-    assert_frames(&rt, lone.host(), 0, Some((245, 245)));
-    assert_free(&rt, lone.host(), 755);
+    lone.round_answers(rt, &wanted, told);
+    let host = lone.host();
+    assert_frames(rt, host, 0, Some((245, 245)));
+    check_eq(rt, host.free(), 755);
     lone.close();
     Ok(())
 }
 
 #[test]
 fn restart(rt: HostRuntime) -> Result<(), Fail> {
+    let rt = &rt;
     let steps = ["w 0 0 ff", "r 0 0 4"];
-    let mut lone = LoneHost::of_guests(&rt, machine(100, 0), &[("web", guest(4, 4))], &steps)?;
+    let mut lone = LoneHost::of_guests(rt, machine(100, 0), &[("web", guest(4, 4))], &steps)?;
     let wanted_read = [read(0, &[0xff, 0, 0, 0])];
-    lone.round_tells(&rt, &["start web"], quiet(State::High, 96));
-    assert_reads(&rt, lone.host(), &wanted_read);
+    lone.round_tells(rt, &["start web"], quiet(State::High, 96));
+    assert_reads(rt, lone.host(), &wanted_read);
     let wanted = [
         ("destroy web", DONE),
         ("destroy web", Outcome::Refused(Refusal::NotRunning)),
         ("start web", DONE),
         ("start web", Outcome::Refused(Refusal::AlreadyRunning)),
     ];
-    lone.round_answers(&rt, &wanted, quiet(State::High, 96));
-    assert_reads(&rt, lone.host(), &wanted_read);
+    lone.round_answers(rt, &wanted, quiet(State::High, 96));
+    assert_reads(rt, lone.host(), &wanted_read);
     lone.close();
     Ok(())
 }
@@ -168,6 +145,7 @@ fn restart(rt: HostRuntime) -> Result<(), Fail> {
 // What the driver tells by itself, and what a driver tells that posts a buffer of its own.
 #[test]
 fn statistics(rt: HostRuntime) -> Result<(), Fail> {
+    let rt = &rt;
     let none = Stats::default();
     let by_itself = Stats {
         minor_faults: Some(0),
@@ -185,10 +163,10 @@ fn statistics(rt: HostRuntime) -> Result<(), Fail> {
         total: Some(8192),
         ..none
     };
-    statistics_after(&rt, "i", by_itself)?;
-    statistics_after(&rt, "p s 05000000010000000000", posted)?;
+    statistics_after(rt, "i", by_itself)?;
+    statistics_after(rt, "p s 05000000010000000000", posted)?;
     statistics_after(
-        &rt,
+        rt,
         "p s 040000100000000000006300010000000000000005000020000000000000",
         repeated,
     )?;
@@ -202,20 +180,14 @@ fn statistics_after(
     stats: Stats,
 ) -> Result<(), Fail> {
     let mut lone = LoneHost::of_guests(rt, machine(100, 0), &[("g", guest(4, 4))], &[step])?;
-    lone.round(rt, &["start g"]);
-    let boundary = lone.round(rt, &["dommemstat g"]);
     let shown = DomainStatistics {
         actual: 16,
         rss: 16,
         stats,
     };
-    assert_answers(rt, &boundary, &[("dommemstat g", Outcome::Shown(shown))]);
-    assert_told_after(rt, step, &boundary, quiet(State::High, 96));
+    let told = quiet(State::High, 96);
+    lone.round_tells(rt, &["start g"], told);
+    lone.round_answers(rt, &[("dommemstat g", Outcome::Shown(shown))], told);
     lone.close();
     Ok(())
-}
-
-// Asserts what a boundary told after a step.
-fn assert_told_after(rt: &impl Abort, step: &str, boundary: &Boundary, told: Told) {
-    assert_eq!(rt; told_by(boundary), told, "{step}");
 }

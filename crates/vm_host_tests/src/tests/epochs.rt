@@ -1,9 +1,8 @@
 // Epochs, and what is read of a host after them.
 use super::lone_host::{
-    LoneHost, assert_first_byte, assert_free, assert_reads, assert_sizes, assert_steps_done,
-    assert_told, quiet,
+    LoneHost, assert_first_byte, assert_reads, assert_sizes, assert_steps_done, quiet,
 };
-use super::setup::{guest, machine, read};
+use super::setup::{check_eq, guest, machine, read};
 use std::process::Abort;
 use std::sync::atomic::{AtomicU64, Ordering};
 use std::test::Fail;
@@ -13,25 +12,28 @@ use vm_host::{Gate, Host, HostError, Lines, MachineSpec, Open, Outcome, State};
 
 #[test]
 fn first_read(rt: HostRuntime) -> Result<(), Fail> {
+    let rt = &rt;
     let steps = ["w 0 0 ff", "r 0 0 4"];
-    let mut lone = LoneHost::of_guests(&rt, machine(100, 0), &[("web", guest(4, 4))], &steps)?;
-    assert_nothing_runs(&rt, lone.host());
-    lone.round_answers(&rt, &[("start web", Outcome::Done)], quiet(State::High, 96));
-    assert_reads(&rt, lone.host(), &[read(0, &[0xff, 0, 0, 0])]);
-    assert_view(&rt, lone.host());
-    assert_frame_counts(&rt, lone.host());
-    assert_names(&rt, lone.host());
-    assert_first_byte(&rt, lone.host(), "web", 0, Some(0xff));
-    assert_first_byte(&rt, lone.host(), "web", 4, None);
-    assert_first_byte(&rt, lone.host(), "c", 0, None);
+    let mut lone = LoneHost::of_guests(rt, machine(100, 0), &[("web", guest(4, 4))], &steps)?;
+    assert_nothing_runs(rt, lone.host());
+    lone.round_answers(rt, &[("start web", Outcome::Done)], quiet(State::High, 96));
+    let host = lone.host();
+    assert_reads(rt, host, &[read(0, &[0xff, 0, 0, 0])]);
+    assert_view(rt, host);
+    assert_frame_counts(rt, host);
+    assert_names(rt, host);
+    assert_first_byte(rt, host, "web", 0, Some(0xff));
+    assert_first_byte(rt, host, "web", 4, None);
+    assert_first_byte(rt, host, "c", 0, None);
     lone.close();
     Ok(())
 }
 
 // All 100 frames are free, and nothing is shown.
 fn assert_nothing_runs(rt: &impl Abort, host: &Host) {
-    assert!(rt; !host.ready() && host.view(0).is_none() && host.reads(0).is_none());
-    assert_free(rt, host, 100);
+    let shown = (host.view(0).is_some(), host.reads(0).is_some());
+    check_eq(rt, (host.ready(), shown), (false, (false, false)));
+    check_eq(rt, host.free(), 100);
     assert_first_byte(rt, host, "web", 0, None);
 }
 
@@ -39,7 +41,7 @@ fn assert_nothing_runs(rt: &impl Abort, host: &Host) {
 fn assert_view(rt: &impl Abort, host: &Host) {
     assert_sizes(rt, host, 0, (4, 4, 0));
     assert_steps_done(rt, host, 0, 2);
-    assert_eq!(rt; counts_of(host), Some((0, 65536, 0)));
+    check_eq(rt, counts_of(host), Some((0, 65536, 0)));
 }
 
 // The pages in the swap area of the first guest, its active fraction, and how many bad entries it posted.
@@ -51,14 +53,18 @@ fn counts_of(host: &Host) -> Option<(u32, u32, u64)> {
 // Asserts where the frames of the machine are.
 fn assert_frame_counts(rt: &impl Abort, host: &Host) {
     let counts = (host.frames(), host.free(), host.overhead_frames());
-    assert_eq!(rt; (counts, host.state()), ((100, 96, 0), State::High));
+    check_eq(rt, (counts, host.state()), ((100, 96, 0), State::High));
 }
 
 // Asserts which domains there are.
 fn assert_names(rt: &impl Abort, host: &Host) {
     let names = (host.len(), host.name(0), host.name(1));
-    assert_eq!(rt; names, (1, Some("web"), None));
-    assert_eq!(rt; (host.position("web"), host.position("c")), (Some(0), None));
+    check_eq(rt, names, (1, Some("web"), None));
+    check_eq(
+        rt,
+        (host.position("web"), host.position("c")),
+        (Some(0), None),
+    );
 }
 
 // Each of two tickets sets its own mark, and looks for the other's.
@@ -98,46 +104,56 @@ impl Gate for Meeting {
 // One thread alone fails here, in whatever order it runs the guests.
 #[test]
 fn two_tickets_at_once(rt: HostRuntime) -> Result<(), Fail> {
+    let rt = &rt;
     let machine = MachineSpec {
         overhead: 1,
         ..machine(100, 0)
     };
-    let mut lone = LoneHost::of_guests(
-        &rt,
-        machine,
-        &[("a", guest(60, 60)), ("b", guest(38, 38))],
-        &[],
-    )?;
+    let guests = [("a", guest(60, 60)), ("b", guest(38, 38))];
+    let mut lone = LoneHost::of_guests(rt, machine, &guests, &[])?;
     let gate = nobody_met();
-    let boundary = lone.boundary(&rt, &["start a", "start b"]);
-    assert_told(&rt, &boundary, quiet(State::Low, 0));
-    lone.epoch(&rt, &gate, 2);
+    lone.boundary_tells(rt, &["start a", "start b"], quiet(State::Low, 0));
+    lone.epoch(rt, &gate, 2);
     lone.close();
-    assert_met(&rt, &gate);
+    assert_met(rt, &gate);
     Ok(())
 }
 
 // Asserts that each ticket saw the other's mark.
 fn assert_met(rt: &impl Abort, gate: &Meeting) {
-    assert!(rt; gate.met[0].load(Ordering::SeqCst) == 1 && gate.met[1].load(Ordering::SeqCst) == 1);
+    let met = [
+        gate.met[0].load(Ordering::SeqCst),
+        gate.met[1].load(Ordering::SeqCst),
+    ];
+    check_eq(rt, met, [1, 1]);
 }
 
 // At each request for memory that fails in turn: a boundary that lacked it leaves a host that can be read and closed, and an epoch that
 // lacked it may be asked for again.
 #[test]
 fn where_memory_is_refused_frames_add_up(rt: HostRuntime) -> Result<(), Fail> {
+    let rt = &rt;
     let mut lines = Lines::new(rt.alloc());
     lines.push("start a")?;
     let steps = ["w 0 0 0a"];
-    let mut lone = LoneHost::of_guests(&rt, machine(16, 4), &[("a", guest(8, 4))], &steps)?;
-    if let Err(error) = lone.try_boundary(&rt, &lines) {
-        assert_failed(&rt, &mut lone, &lines, error);
-    } else if lone.try_epoch(&rt, &Open, 2).is_err() {
-        assert_asked_again(&rt, &mut lone);
-    }
-    assert_adds_up(&rt, lone.host());
+    let mut lone = LoneHost::of_guests(rt, machine(16, 4), &[("a", guest(8, 4))], &steps)?;
+    assert_goes_on(rt, &mut lone, &lines);
+    assert_adds_up(rt, lone.host());
     lone.close();
     Ok(())
+}
+
+// Asserts how a host goes on, be its boundary refused memory, its epoch, or neither.
+fn assert_goes_on(
+    rt: &(impl AllocGlobal + Abort + Threads + Sync),
+    lone: &mut LoneHost,
+    lines: &Lines,
+) {
+    if let Some(error) = lone.try_boundary(rt, lines).err() {
+        assert_failed(rt, lone, lines, error);
+    } else if lone.try_epoch(rt, &Open, 2).is_err() {
+        assert_asked_again(rt, lone);
+    }
 }
 
 // Asserts that a boundary lacked memory, and that the host has failed since.
@@ -147,29 +163,24 @@ fn assert_failed(
     lines: &Lines,
     error: HostError,
 ) {
-    assert_eq!(rt; error, HostError::Memory);
+    check_eq(rt, error, HostError::Memory);
     assert_first_byte(rt, lone.host(), "a", 0, None);
     let again = lone.try_boundary(rt, lines).err();
-    assert_ends(rt, again, Some(HostError::Failed));
+    check_eq(rt, again, Some(HostError::Failed));
     let again = lone.try_epoch(rt, &Open, 2).err();
-    assert_ends(rt, again, Some(HostError::Failed));
+    check_eq(rt, again, Some(HostError::Failed));
 }
 
 // Asserts that an epoch changed nothing, and that the guest takes its step when it is asked for again.
 fn assert_asked_again(rt: &(impl AllocGlobal + Abort + Threads + Sync), lone: &mut LoneHost) {
     assert_steps_done(rt, lone.host(), 0, 0);
     let again = lone.try_epoch(rt, &Open, 2).err();
-    assert_ends(rt, again, None);
+    check_eq(rt, again, None);
     assert_steps_done(rt, lone.host(), 0, 1);
-}
-
-// Asserts how a call ended.
-fn assert_ends(rt: &impl Abort, error: Option<HostError>, wanted: Option<HostError>) {
-    assert_eq!(rt; error, wanted);
 }
 
 // Asserts that the free frames and those that the first guest holds are all 16.
 fn assert_adds_up(rt: &impl Abort, host: &Host) {
     let held = host.view(0).map_or(0, |view| view.held);
-    assert_eq!(rt; u64::from(host.free()) + u64::from(held), 16);
+    check_eq(rt, u64::from(host.free()) + u64::from(held), 16);
 }

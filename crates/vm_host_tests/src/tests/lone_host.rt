@@ -1,7 +1,7 @@
 // A host under test, and what it tells.
 ghost use Rattle.std.specs.Prelude.{◌≤◌};
 
-use super::setup::{Shape, add_guest};
+use super::setup::{Shape, add_guest, check_eq};
 use std::process::Abort;
 use std::test::Fail;
 use std::thread::Threads;
@@ -34,7 +34,8 @@ impl LoneHost {
         guests: &[(&str, Shape)],
         steps: &[&str],
     ) -> Result<LoneHost, Fail> {
-        let domains = domains_of(rt, guests, steps)?;
+        let mut domains = Domains::new(rt.alloc());
+        add_guests(rt, &mut domains, guests, steps)?;
         Ok(LoneHost::new(rt, machine, domains))
     }
 
@@ -48,9 +49,30 @@ impl LoneHost {
     }
 
     // A boundary with these lines.
-    pub(super) fn boundary(&mut self, rt: &(impl AllocGlobal + Abort), lines: &[&str]) -> Boundary {
-        self.try_boundary(rt, &lines_of(rt, lines))
-            .expect(rt, "memory")
+    fn boundary(&mut self, rt: &(impl AllocGlobal + Abort), lines: Lines) -> Boundary {
+        self.try_boundary(rt, &lines).expect(rt, "memory")
+    }
+
+    // Asserts what a boundary with these lines tells.
+    pub(super) fn boundary_tells(
+        &mut self,
+        rt: &(impl AllocGlobal + Abort),
+        lines: &[&str],
+        told: Told,
+    ) {
+        let boundary = self.boundary(rt, lines_of(rt, lines));
+        check_eq(rt, told_by(&boundary), told);
+    }
+
+    // Asserts what becomes of each line of a boundary, and what it tells.
+    pub(super) fn boundary_answers(
+        &mut self,
+        rt: &(impl AllocGlobal + Abort),
+        wanted: &[(&str, Outcome)],
+        told: Told,
+    ) {
+        let boundary = self.boundary(rt, lines_wanted(rt, wanted));
+        assert_answers(rt, &boundary, wanted, told);
     }
 
     // An epoch for which memory may be refused.
@@ -79,17 +101,6 @@ impl LoneHost {
         assert!(rt; !self.host.ready());
     }
 
-    // Both, on one thread.
-    pub(super) fn round(
-        &mut self,
-        rt: &(impl AllocGlobal + Abort + Threads + Sync),
-        lines: &[&str],
-    ) -> Boundary {
-        let boundary = self.boundary(rt, lines);
-        self.epoch(rt, &Open, 1);
-        boundary
-    }
-
     // Asserts what the boundary of a round with these lines tells.
     pub(super) fn round_tells(
         &mut self,
@@ -97,8 +108,8 @@ impl LoneHost {
         lines: &[&str],
         told: Told,
     ) {
-        let boundary = self.round(rt, lines);
-        assert_told(rt, &boundary, told);
+        self.boundary_tells(rt, lines, told);
+        self.epoch(rt, &Open, 1);
     }
 
     // Asserts what becomes of each line of a round, and what its boundary tells.
@@ -108,11 +119,8 @@ impl LoneHost {
         wanted: &[(&str, Outcome)],
         told: Told,
     ) {
-        let lines = lines_wanted(rt, wanted);
-        let boundary = self.try_boundary(rt, &lines).expect(rt, "memory");
+        self.boundary_answers(rt, wanted, told);
         self.epoch(rt, &Open, 1);
-        assert_answers(rt, &boundary, wanted);
-        assert_told(rt, &boundary, told);
     }
 
     // What can be read of it.
@@ -126,21 +134,21 @@ impl LoneHost {
     }
 }
 
-// Domains of which the first has these steps to take.
-fn domains_of(
+// Adds guests, of which the first has these steps to take.
+fn add_guests(
     rt: &(impl AllocGlobal + Abort),
+    domains: &mut Domains,
     guests: &[(&str, Shape)],
     steps: &[&str],
-) -> Result<Domains, Fail> {
-    let mut domains = Domains::new(rt.alloc());
+) -> Result<(), Fail> {
     for (place, (name, shape)) in guests.iter().enumerate() {
         if place == 0 {
-            add_guest(rt, &mut domains, name, *shape, steps)?;
+            add_guest(rt, domains, name, *shape, steps)?;
         } else {
-            add_guest(rt, &mut domains, name, *shape, &[])?;
+            add_guest(rt, domains, name, *shape, &[])?;
         }
     }
-    Ok(domains)
+    Ok(())
 }
 
 // Lines with these texts.
@@ -170,6 +178,8 @@ pub(super) struct Told {
     pub(super) revoked: [usize; 2],
     // How often each target rose.
     pub(super) granted: [usize; 2],
+    // How often each target fell for the first line.
+    pub(super) taken: [usize; 2],
     // The one guest that gave up frames.
     pub(super) paged: Option<Paged>,
     // The one guest that is blocked.
@@ -183,6 +193,7 @@ pub(super) fn quiet(state: State, free: u32) -> Told {
         free,
         revoked: [0, 0],
         granted: [0, 0],
+        taken: [0, 0],
         paged: None,
         blocked: None,
     }
@@ -199,43 +210,49 @@ fn count_of(plan: &Plan, position: u32) -> usize {
     count
 }
 
+// How often the first guest is told, and the second.
+fn counts_of(plan: &Plan) -> [usize; 2] {
+    [count_of(plan, 0), count_of(plan, 1)]
+}
+
 // The only one of a list, if there is one.
 fn only<T: Copy>(items: &[T]) -> Option<T> {
     let first = items.first()?;
     if items.len() == 1 { Some(*first) } else { None }
 }
 
-pub(super) fn told_by(boundary: &Boundary) -> Told {
-    let revoked = &boundary.revoked;
-    let granted = &boundary.granted;
+// How often the targets of the first guest and of the second fell for the first line.
+fn taken_by(boundary: &Boundary) -> [usize; 2] {
+    match boundary.answers.as_slice().first() {
+        Some(answer) => counts_of(answer.revocations()),
+        None => [0, 0],
+    }
+}
+
+fn told_by(boundary: &Boundary) -> Told {
     Told {
         state: boundary.state,
         free: boundary.free,
-        revoked: [count_of(revoked, 0), count_of(revoked, 1)],
-        granted: [count_of(granted, 0), count_of(granted, 1)],
+        revoked: counts_of(&boundary.revoked),
+        granted: counts_of(&boundary.granted),
+        taken: taken_by(boundary),
         paged: only(boundary.paged.as_slice()),
         blocked: only(boundary.blocked.as_slice()),
     }
 }
 
-// How often the targets of the first guest and of the second fell for the line at a place.
-fn taken_for(boundary: &Boundary, place: usize) -> Option<[usize; 2]> {
-    let taken = boundary.answers.as_slice().get(place)?.revocations();
-    Some([count_of(taken, 0), count_of(taken, 1)])
-}
-
-// Each line was answered with its text, and came to this.
-pub(super) fn assert_answers(rt: &impl Abort, boundary: &Boundary, wanted: &[(&str, Outcome)]) {
+// Each line was answered with its text, and came to this. The boundary told this.
+fn assert_answers(rt: &impl Abort, boundary: &Boundary, wanted: &[(&str, Outcome)], told: Told) {
     let answers = boundary.answers.as_slice();
-    assert_eq!(rt; answers.len(), wanted.len());
+    check_eq(rt, answers.len(), wanted.len());
     for (answer, (line, outcome)) in answers.iter().zip(wanted) {
-        assert_eq!(rt; answer.line(), *line);
-        assert_eq!(rt; answer.outcome(), *outcome, "{line}");
+        check_eq(rt, (answer.line(), answer.outcome()), (*line, *outcome));
     }
+    check_eq(rt, (wanted, told_by(boundary)), (wanted, told));
 }
 
 // How many frames a guest is to have, and how many it has.
-pub(super) fn frames_of(host: &Host, position: usize) -> Option<(u32, u32)> {
+fn frames_of(host: &Host, position: usize) -> Option<(u32, u32)> {
     let view = host.view(position)?;
     Some((view.target, view.held))
 }
@@ -261,19 +278,9 @@ fn first_byte(host: &Host, name: &str, page: u32) -> Option<u8> {
     }
 }
 
-// Asserts what a boundary told.
-pub(super) fn assert_told(rt: &impl Abort, boundary: &Boundary, told: Told) {
-    assert_eq!(rt; told_by(boundary), told);
-}
-
-// Asserts how often targets fell for the line at a place.
-pub(super) fn assert_taken(rt: &impl Abort, boundary: &Boundary, place: usize, taken: [usize; 2]) {
-    assert_eq!(rt; taken_for(boundary, place), Some(taken));
-}
-
 // Asserts how many steps of its trace a guest has done.
 pub(super) fn assert_steps_done(rt: &impl Abort, host: &Host, position: usize, done: u32) {
-    assert_eq!(rt; steps_done(host, position), Some(done));
+    check_eq(rt, steps_done(host, position), Some(done));
 }
 
 // Asserts the target of a guest, and the frames that it holds.
@@ -283,12 +290,12 @@ pub(super) fn assert_frames(
     position: usize,
     frames: Option<(u32, u32)>,
 ) {
-    assert_eq!(rt; frames_of(host, position), frames);
+    check_eq(rt, frames_of(host, position), frames);
 }
 
 // Asserts the target of a guest that runs, the frames that it holds, and the pages in its balloon.
 pub(super) fn assert_sizes(rt: &impl Abort, host: &Host, position: usize, sizes: (u32, u32, u32)) {
-    assert_eq!(rt; sizes_of(host, position), Some(sizes));
+    check_eq(rt, sizes_of(host, position), Some(sizes));
 }
 
 // Asserts the first byte of a page, or that it can't be seen.
@@ -299,15 +306,10 @@ pub(super) fn assert_first_byte(
     page: u32,
     byte: Option<u8>,
 ) {
-    assert_eq!(rt; first_byte(host, name, page), byte);
+    check_eq(rt, first_byte(host, name, page), byte);
 }
 
 // Asserts the reads of the first guest, which runs.
 pub(super) fn assert_reads(rt: &impl Abort, host: &Host, reads: &[PageRead]) {
-    assert_eq!(rt; host.reads(0), Some(reads));
-}
-
-// Asserts how many frames are free.
-pub(super) fn assert_free(rt: &impl Abort, host: &Host, frames: u32) {
-    assert_eq!(rt; host.free(), frames);
+    check_eq(rt, host.reads(0), Some(reads));
 }

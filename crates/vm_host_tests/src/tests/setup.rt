@@ -3,10 +3,16 @@ ghost use Rattle.std.specs.Prelude.{◌≤◌, All, IfOk, OnOk, length};
 ghost use Rattle.vm_trace.specs.Limits.{IsStep, IsWithin};
 
 use std::alloc::Global;
+use std::fmt::Debug;
 use std::process::Abort;
 use std::test::Fail;
 use vm_host::{Domains, GuestSpec, MachineSpec, PageRead, Percents};
 use vm_trace::{Bytes, Trace, parse_step_within};
+
+// Asserts that both are the same. It stands here once, since what says how two values differ is proved wherever it stands.
+pub(super) fn check_eq<T: Copy + Debug + PartialEq>(rt: &impl Abort, found: T, wanted: T) {
+    assert_eq!(rt; found, wanted);
+}
 
 // A machine of so many frames with the defaults of a configuration, but for its swap area.
 pub(super) fn machine(frames: u32, swap: u32) -> MachineSpec
@@ -93,6 +99,7 @@ pub(super) fn add_guest(
     assert!(rt; 1 <= shape.min && shape.min <= shape.size && shape.size <= 1000);
     assert!(rt; 1 <= shape.shares && shape.shares <= 1000);
     assert!(rt; 1 <= shape.quantum && shape.quantum <= 100);
+    assert!(rt; domains.len() < 256 && domains.position(name).is_none());
     let spec = GuestSpec {
         size: shape.size,
         min: shape.min,
@@ -106,7 +113,6 @@ pub(super) fn add_guest(
         tell: true,
         trace: trace_of(rt.alloc(), shape.size, steps)?,
     };
-    assert!(rt; domains.len() < 256 && domains.position(name).is_none());
     match domains.push(name, spec) {
         Ok(()) => Ok(()),
         Err(_spec) => Err(Fail::from("memory")),
