@@ -8,7 +8,7 @@ use Rattle.vm_trace.specs.declared.step.Step.{Step}
 use Rattle.vm_config.specs.Keys.{text_of}
 use Rattle.vm_config.specs.Outcomes.{◌>>=◌}
 use Rattle.vm_config.specs.Reading.{at_place, steps_from}
-use Rattle.vm_config.specs.Trace.{step_in}
+use Rattle.vm_trace.specs.Sized.{step_in}
 
 -- the texts from one on go on as the texts behind it do, once its step was added
 pub steps_from_next : (pages size guest : ℕ) (values : List (Value Global)) (i : ℕ) (value : Value Global) (steps : List Step) (step : Step)

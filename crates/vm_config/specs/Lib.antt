@@ -5,7 +5,6 @@ pub mod Names
 pub mod Keys
 pub mod Places
 pub mod FaultTexts
-pub mod Trace
 pub mod Guests
 pub mod Schedule
 pub mod Migration

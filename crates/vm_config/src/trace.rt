@@ -5,28 +5,12 @@ ghost use Rattle.vm_trace.specs.Limits.{IsStep, IsWithin};
 ghost use Rattle.vm_config.specs.Keys.{text_of};
 ghost use Rattle.vm_config.specs.Outcomes.{IsOrMemory};
 ghost use Rattle.vm_config.specs.Reading.{steps_from};
-ghost use Rattle.vm_config.specs.Trace.{step_in};
 
 use crate::error::ConfigError;
 use crate::keys::text_of;
 use std::alloc::Global;
 use vm_json::Value;
-use vm_trace::{Step, Trace, TraceError, parse_step_within};
-
-// The step that a text is within these pages, for a guest with this many.
-fn step_in(pages: u32, size: u32, text: &str) -> Result<Step, TraceError>
-    requires some { 1 ≤ pages }
-    requires few { pages ≤ 262144 }
-    ensures step { result ≡ step_in pages size text.now }
-    ensures within { IfOk result (IsWithin size) }
-    ensures bounded { IfOk result IsStep }
-{
-    let step = parse_step_within(text, pages)?;
-    if !step.is_within(size) {
-        return Err(TraceError::Range);
-    }
-    Ok(step)
-}
+use vm_trace::{PushError, Trace};
 
 // The steps, or the first fault with its place.
 pub(crate) fn trace(
@@ -46,17 +30,17 @@ pub(crate) fn trace(
     let mut steps = Trace::with_capacity(alloc, texts.len()).map_err(|_| ConfigError::Memory)?;
     for text in texts {
         let place = steps.len();
-        let step = match step_in(pages, size, text_of(text)) {
-            Ok(step) => step,
-            Err(fault) => {
+        match steps.push_text(text_of(text), pages, size) {
+            Ok(()) => {}
+            Err(PushError::Memory) => return Err(ConfigError::Memory),
+            Err(PushError::Fault(fault)) => {
                 return Err(ConfigError::Trace {
                     guest,
                     step: place,
                     fault,
                 });
             }
-        };
-        steps.push(step).map_err(|_| ConfigError::Memory)?;
+        }
     }
     Ok(steps)
 }

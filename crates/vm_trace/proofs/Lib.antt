@@ -1,5 +1,6 @@
 pub mod Gathered
 pub mod Hex
+pub mod InFront
 pub mod Kept
 pub mod Numbers
 pub mod Padding

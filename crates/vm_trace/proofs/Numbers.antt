@@ -51,3 +51,8 @@ number_more word i n below value one =
     let range = and_parts _ _ one in
     let digit = digit_value_digit (get_or word i 0) (leb-true _ _ range.0, leb-true _ _ range.1) in
     omega (arith, value, digit, digits_value_more 10 word i below)
+
+-- fewer than nine digits are below 10 ^ 8
+pub number_tiny : (word : List ℕ) (i : ℕ) → i ≤ length word → i < 9 → list_all is_ascii_digit (take i word) ≡ true → digits_value 10 (take i word) < 10 ^ 8
+number_tiny word i below few digits =
+    digits_value_short decimal (take i word) 8 digits (omega (arith, length-take-le i word below))

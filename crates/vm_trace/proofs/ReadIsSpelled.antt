@@ -198,13 +198,14 @@ spelled-step_within pages text step some h = elim (chosen (list_any is_empty_wor
 pub read_spells : (pages : ℕ) (text : List ℕ) (answer : Result Step TraceError) (step : Step) → 1 ≤ pages → answer ≡ step_within pages text → answer ≡ Ok step → IsSpelled pages text step
 read_spells pages text answer step some is read = spelled-step_within pages text step some (sym is ∙ read)
 
-within_most : (pages : ℕ) (step : Step) → pages ≤ most_pages → IsWithin pages step → IsWithin most_pages step
-within_most pages (Read page offset len) few below = omega (arith, below)
-within_most pages (Write page offset bytes) few below = omega (arith, below)
-within_most pages (Free page) few below = omega (arith, below)
-within_most pages Idle few below = tt
-within_most pages (Post queue bytes) few below = tt
+-- a page of a guest is one of a greater guest
+pub within_more : (few many : ℕ) (step : Step) → few ≤ many → IsWithin few step → IsWithin many step
+within_more few many (Read page offset len) more below = omega (arith, more, below)
+within_more few many (Write page offset bytes) more below = omega (arith, more, below)
+within_more few many (Free page) more below = omega (arith, more, below)
+within_more few many Idle more below = tt
+within_more few many (Post queue bytes) more below = tt
 
 -- what is spelled keeps the limits
 pub IsStep-spelled : (pages : ℕ) (text : List ℕ) (step : Step) → pages ≤ most_pages → IsSpelled pages text step → IsStep step
-IsStep-spelled pages text step few s = record { page = within_most pages step few s.page; bytes = s.bytes }
+IsStep-spelled pages text step few s = record { page = within_more pages most_pages step few s.page; bytes = s.bytes }

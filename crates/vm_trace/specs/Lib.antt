@@ -2,6 +2,8 @@ pub mod Bytes
 pub mod Entries
 pub mod Limits
 pub mod Meaning
+pub mod Sized
 pub mod Spelling
 pub mod TraceError
 pub mod Words
+pub mod Entering

@@ -5,14 +5,16 @@
 #![tactic(auto)]
 
 mod bytes;
+mod entering;
 mod entry;
 mod error;
 mod parse;
+mod plain;
 mod step;
 mod trace;
 
 pub use bytes::{Bytes, MAX_BYTES};
-pub use error::TraceError;
+pub use error::{PushError, TraceError};
 pub use parse::{parse_step, parse_step_within};
 pub use step::{Action, Queue, Step};
 pub use trace::Trace;

@@ -11,10 +11,10 @@ use crate::error::TraceError;
 use crate::step::{Action, Queue, Step};
 
 // The bytes of a page.
-const PAGE_BYTES: u32 = 4096;
+pub(crate) const PAGE_BYTES: u32 = 4096;
 
 // The most bytes that a step reads or writes.
-const MAX_ACCESS: u32 = 16;
+pub(crate) const MAX_ACCESS: u32 = 16;
 
 // The most words that a step has.
 const MAX_WORDS: usize = 4;

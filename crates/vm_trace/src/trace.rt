@@ -1,11 +1,14 @@
 // A list of steps.
-ghost use Rattle.std.specs.Prelude.{◌≡◌, ◌<◌, ◌↔◌, [], ◌∷◌, ◌++◌, length, IsTrue, IfOk, IfSome, OnOk, OnErr, slice_get};
-ghost use Rattle.vm_trace.specs.Entries.{bytes_of, Keeps};
+ghost use Rattle.std.specs.Prelude.{◌≡◌, ◌<◌, ◌≤◌, ◌↔◌, [], ◌∷◌, ◌++◌, length, Err, IsTrue, IfOk, IfSome, OnOk, OnErr, slice_get};
+ghost use Rattle.vm_trace.specs.declared.error.PushError.TheVariants.{Fault};
+ghost use Rattle.vm_trace.specs.declared.error.TraceError.{TraceError};
 ghost use Rattle.vm_trace.specs.Limits.{IsStep};
+ghost use Rattle.vm_trace.specs.Sized.{step_in, IsAdded};
 
-use crate::bytes::Bytes;
+use crate::entering::{entry_of, entry_of_text};
 use crate::entry::{Entry, action_at};
-use crate::step::{Action, Step};
+use crate::error::PushError;
+use crate::step::Step;
 use std::alloc::{AllocError, Global};
 use std::marker::Model;
 
@@ -27,48 +30,6 @@ impl Model for Trace {
     ghost view = { λ t. steps_of t.bytes.items t.entries.items };
 
     ghost invariant = { λ t. AreKept t.bytes.items t.entries.items };
-}
-
-// Puts the bytes of a step behind the others and gives their place, which has 32 bits.
-fn keep(store: &mut Vec<u8>, bytes: Bytes) -> Result<u32, AllocError>
-    ensures place { IfOk result (λ start. start ≡ length store.old.items) }
-    ensures ok { OnOk result (store.new.items ≡ store.old.items ++ bytes) }
-    ensures err { OnErr result (store.new.items ≡ store.old.items) }
-{
-    let Ok(start) = u32::try_from(store.len()) else {
-        return Err(AllocError);
-    };
-    store.extend_from_slice(bytes.as_slice())?;
-    Ok(start)
-}
-
-// The entry of an action, whose bytes it puts behind the others.
-fn entry_of(store: &mut Vec<u8>, action: Action) -> Result<Entry, AllocError>
-    requires { IsStep action }
-    ensures entry { IfOk result (λ e. Keeps store.new.items e action) }
-    ensures ok { OnOk result (store.new.items ≡ store.old.items ++ bytes_of action) }
-    ensures err { OnErr result (store.new.items ≡ store.old.items) }
-{
-    Ok(match action {
-        Action::Read { page, offset, len } => Entry::Read { page, offset, len },
-        Action::Write {
-            page,
-            offset,
-            bytes,
-        } => Entry::Write {
-            page,
-            start: keep(store, bytes)?,
-            offset,
-            len: bytes.len() as u8,
-        },
-        Action::Free { page } => Entry::Free { page },
-        Action::Idle => Entry::Idle,
-        Action::Post { queue, bytes } => Entry::Post {
-            queue,
-            start: keep(store, bytes)?,
-            len: bytes.len() as u8,
-        },
-    })
 }
 
 impl Trace {
@@ -101,6 +62,26 @@ impl Trace {
     {
         let entry = entry_of(&mut self.bytes, step.action())?;
         self.entries.push(entry)?;
+        Ok(())
+    }
+
+    /// Adds the step that a text is at the end, for a guest with `size` pages whose trace is read within `pages`: as
+    /// [`parse_step_within`](crate::parse_step_within) reads it, and then its page has to be below `size`
+    /// ([`TraceError::Range`](crate::TraceError::Range)). An `Err` changes nothing, and [`PushError::Memory`] comes as
+    /// from [`Trace::push`].
+    ///
+    /// Most texts are read in one pass, and so in less time than [`Trace::push`] takes behind `parse_step_within`.
+    pub fn push_text(&mut self, text: &str, pages: u32, size: u32) -> Result<(), PushError>
+        requires some { 1 ≤ pages }
+        requires few { pages ≤ 262144 }
+        ensures ok { OnOk result (IsAdded pages size text.now self.old self.new) }
+        ensures fault { (fault : TraceError) → result ≡ Err (Fault fault) → step_in pages size text.now ≡ Err fault }
+        ensures err { OnErr result (self.new ≡ self.old) }
+    {
+        let entry = entry_of_text(&mut self.bytes, text, pages, size)?;
+        let Ok(()) = self.entries.push(entry) else {
+            return Err(PushError::Memory);
+        };
         Ok(())
     }
 

@@ -2,7 +2,7 @@
 use super::{check_eq, check_words};
 use std::alloc::{AllocError, Global};
 use std::process::Abort;
-use vm_trace::{Action, Bytes, Queue, Trace, TraceError, parse_step, parse_step_within};
+use vm_trace::{Action, Bytes, PushError, Queue, Trace, TraceError, parse_step, parse_step_within};
 
 // Asserts that each of these texts has this as its first fault.
 fn check_faults(rt: &impl Abort, fault: TraceError, texts: &[&str]) {
@@ -177,6 +177,102 @@ fn traces_keep_the_bytes_of_each_step(rt: HostRuntime) {
     check_eq(&rt, step.action(), last_byte);
 }
 
+// Asserts that a text adds this step to a trace of a guest with 65536 pages.
+fn check_added(rt: &impl Abort, trace: &mut Trace, text: &str, wanted: Action) {
+    let place = trace.len();
+    check_eq(rt, trace.push_text(text, 262144, 65536), Ok(()));
+    check_eq(rt, usize::saturating_sub(trace.len(), place), 1);
+    let step = trace.step(place).expect(rt, "a step");
+    check_eq(rt, step.action(), wanted);
+}
+
+// A read of these bytes.
+fn read_of(page: u32, offset: u16, len: u8) -> Action {
+    Action::Read { page, offset, len }
+}
+
+#[test]
+fn texts_add_reads(rt: HostRuntime) {
+    let mut trace = Trace::new(rt.alloc());
+    let last = "r 65535 4080 16";
+    check_added(&rt, &mut trace, last, read_of(65535, 4080, 16));
+    let nine_digits = "r 000065535 4080 016";
+    check_added(&rt, &mut trace, nine_digits, read_of(65535, 4080, 16));
+    let ten_digits = "r 0000065535 4080 16";
+    check_added(&rt, &mut trace, ten_digits, read_of(65535, 4080, 16));
+    check_added(&rt, &mut trace, "r 0 0 1", read_of(0, 0, 1));
+}
+
+#[test]
+fn texts_add_writes(rt: HostRuntime) {
+    let mut trace = Trace::with_capacity(rt.alloc(), 1).expect(&rt, "memory");
+    let two = Action::Write {
+        page: 7,
+        offset: 4094,
+        bytes: Bytes::from_slice(&[0xff, 0xfe]),
+    };
+    check_added(&rt, &mut trace, "w 7 4094 FFfe", two);
+    let whole = Action::Write {
+        page: 65535,
+        offset: 4080,
+        bytes: Bytes::from_slice(&[0, 1, 2, 3, 4, 5, 6, 7, 8, 9, 10, 11, 12, 13, 14, 15]),
+    };
+    let text = "w 65535 4080 000102030405060708090a0b0c0d0e0f";
+    check_added(&rt, &mut trace, text, whole);
+    let first = Action::Write {
+        page: 7,
+        offset: 4094,
+        bytes: Bytes::from_slice(&[0xff, 0xfe]),
+    };
+    let step = trace.step(0).expect(&rt, "a step");
+    check_eq(&rt, step.action(), first);
+}
+
+#[test]
+fn texts_add_other_steps(rt: HostRuntime) {
+    let mut trace = Trace::new(rt.alloc());
+    check_added(&rt, &mut trace, "i", Action::Idle);
+    check_added(&rt, &mut trace, "f 65535", Action::Free { page: 65535 });
+    let post = Action::Post {
+        queue: Queue::Stats,
+        bytes: Bytes::from_slice(&[3, 0]),
+    };
+    check_added(&rt, &mut trace, "p s 0300", post);
+}
+
+// Asserts that each of these texts has this fault, for a guest of 8 pages, and adds nothing.
+fn check_refused(rt: &impl Abort, trace: &mut Trace, fault: TraceError, texts: &[&str]) {
+    for &text in texts {
+        let answer = trace.push_text(text, 65536, 8);
+        check_eq(rt, (text, answer), (text, Err(PushError::Fault(fault))));
+    }
+    check_eq(rt, trace.len(), 0);
+}
+
+#[test]
+fn texts_with_a_fault_add_nothing(rt: HostRuntime) {
+    let mut trace = Trace::new(rt.alloc());
+    let no_steps = ["", "r 0 0", "r 0 0 1 1", "r  0 0 1", "r 0 0 1 ", "w 0 0 "];
+    check_refused(&rt, &mut trace, TraceError::Unknown, &no_steps);
+    let no_numbers = ["r a 0 1", "w 0 00000000000 ff", "r 0 0 +1"];
+    check_refused(&rt, &mut trace, TraceError::Number, &no_numbers);
+    let reads = [
+        "r 8 0 1",
+        "r 65536 0 1",
+        "r 0 4096 1",
+        "r 0 0 17",
+        "r 0 0 0",
+        "r 0 4095 2",
+    ];
+    check_refused(&rt, &mut trace, TraceError::Range, &reads);
+    let others = ["w 8 0 ff", "w 0 4095 ffff", "f 8"];
+    check_refused(&rt, &mut trace, TraceError::Range, &others);
+    // The bytes of a text are looked at before its page is one of the guest's.
+    check_refused(&rt, &mut trace, TraceError::Hex, &["w 8 0 fg", "w 0 0 fff"]);
+    let long = "w 0 0 00112233445566778899aabbccddeeff00";
+    check_refused(&rt, &mut trace, TraceError::Length, &[long]);
+}
+
 #[test]
 fn faults_read(rt: HostRuntime) {
     let alloc = rt.alloc();
@@ -190,4 +286,7 @@ fn faults_read(rt: HostRuntime) {
     check_words(&rt, alloc, TraceError::Range, "out of range");
     check_words(&rt, alloc, TraceError::Hex, "not hexadecimal bytes");
     check_words(&rt, alloc, TraceError::Length, "too many bytes");
+    let hex = PushError::Fault(TraceError::Hex);
+    check_words(&rt, alloc, hex, "not hexadecimal bytes");
+    check_words(&rt, alloc, PushError::Memory, "out of memory");
 }
