@@ -1,9 +1,11 @@
 // One key of a JSON object, by the kind and the range that it has to have.
-ghost use Rattle.std.specs.Prelude.{◌≡◌, ◌≤◌, [], IfOk, map, length, vec_len};
+ghost use Rattle.std.specs.Prelude.{◌≡◌, ◌≢◌, ℕ, ◌≤◌, [], Err, IfErr, IfOk, map, length, vec_len};
 ghost use Rattle.serde_json.specs.Find.{get};
-ghost use Rattle.vm_json.specs.View.{view};
+ghost use Rattle.serde_json.specs.Data.{string};
+ghost use Rattle.vm_json.specs.View.{items_seen, view};
+ghost use Rattle.vm_config.specs.declared.error.ConfigError.TheVariants.{Kind};
 ghost use Rattle.vm_domains.specs.Machine.{AreFalling};
-ghost use Rattle.vm_config.specs.Keys.{among, falling_percents, is_object, is_text, is_whole, items_in, number_in, objects_in, objects_or_none, percents_in, text_in, text_of, texts_or_none};
+ghost use Rattle.vm_config.specs.Keys.{among, falling_percents, is_object, is_text, is_whole, items_in, number_in, objects_in, objects_of, objects_or_none, percents_among, percents_in, text_in, text_of, texts_or_none};
 ghost use Rattle.vm_config.specs.Outcomes.{Answers};
 ghost use Rattle.vm_config.specs.Places.{flag_if_at, flag_or_at, number_at, number_or_at, percents_or_at};
 ghost use Rattle.std.specs.List.{list_all};
@@ -11,7 +13,8 @@ ghost use Rattle.std.specs.List.{list_all};
 use crate::error::ConfigError;
 use crate::fault::{Fault, at};
 use crate::place::{Key, Part};
-use vm_json::{Value, member, take_member};
+use std::alloc::Global;
+use vm_json::{Elements, Value, member, take_member};
 use vm_plan::Percents;
 
 // ---- numbers
@@ -112,26 +115,12 @@ pub(crate) fn text<'a>(object: &Value<'a>, key: &str) -> Result<&'a str, ConfigE
     vm_json::text(value).ok_or(ConfigError::Kind)
 }
 
-// The text that a value is, and of another value the empty text.
-pub(crate) fn text_of<'a>(value: &Value<'a>) -> &'a str
-    ensures { result.now ≡ text_of (view value.now) }
-{
-    vm_json::text(value).unwrap_or("")
-}
-
 // ---- arrays
-
-// An empty list, for a key that is absent.
-fn no_values<'v, 'a>() -> &'v [Value<'a>]
-    ensures { result.now ≡ [] }
-{
-    &[]
-}
 
 // The items of an array.
 #[tactic(auto, using(crate::proofs::ValueLemmas::list_of_items))]
-fn items<'v, 'a>(value: &'v Value<'a>) -> Result<&'v [Value<'a>], ConfigError>
-    ensures { Answers result (λ vs. map view vs.now) (items_in (view value.now)) }
+fn items<'v, 'a>(value: &'v Value<'a>) -> Result<Elements<'v, 'a>, ConfigError>
+    ensures { Answers result items_seen (items_in (view value.now)) }
 {
     vm_json::items(value).ok_or(ConfigError::Kind)
 }
@@ -162,6 +151,36 @@ fn limited_objects<'v, 'a>(
     Ok(values)
 }
 
+// An empty list, for a key that is absent.
+fn no_values<'v, 'a>() -> &'v [Value<'a>]
+    ensures { result.now ≡ [] }
+{
+    &[]
+}
+
+fn no_texts<'v, 'a>() -> &'v [&'a str]
+    ensures { result.now ≡ [] }
+{
+    &[]
+}
+
+// All the items, if they are objects and at most `limit`.
+fn objects_among<'v, 'a>(
+    found: Elements<'v, 'a>,
+    limit: usize,
+) -> Result<&'v [Value<'a>], ConfigError>
+    ensures objects { Answers result (λ vs. map view vs.now) (among is_object limit (items_seen found.entry)) }
+    ensures few { IfOk result (λ vs. length vs.now ≤ limit) }
+{
+    if let Elements::Values(values) = found {
+        return limited_objects(values, limit);
+    }
+    if found.len() != 0 {
+        return Err(ConfigError::Kind);
+    }
+    Ok(no_values())
+}
+
 // The objects at a key that has to be there.
 pub(crate) fn objects<'v, 'a>(
     object: &'v Value<'a>,
@@ -172,7 +191,7 @@ pub(crate) fn objects<'v, 'a>(
     ensures few { IfOk result (λ vs. length vs.now ≤ limit) }
 {
     let value = member(object, key).ok_or(ConfigError::Missing)?;
-    limited_objects(items(value)?, limit)
+    objects_among(items(value)?, limit)
 }
 
 // The objects at a key, or none where the key is absent.
@@ -189,16 +208,27 @@ pub(crate) fn objects_or_none<'v, 'a>(
     objects(object, key, limit)
 }
 
-// The items of an array, which are moved out.
-#[tactic(auto, using(crate::proofs::ValueLemmas::list_of_items))]
-fn take_items<'a>(value: Value<'a>) -> Result<Vec<Value<'a>>, ConfigError>
-    ensures { Answers result (λ vs. map view vs.items) (items_in (view value.entry)) }
+// The objects of an array, which are moved out, if they are at most `limit`.
+fn take_among<'a>(
+    alloc: Global,
+    value: Value<'a>,
+    limit: usize,
+) -> Result<Vec<Value<'a>>, ConfigError>
+    ensures objects { Answers result (λ vs. map view vs.items) (objects_of limit (view value.entry)) }
+    ensures few { IfOk result (λ vs. vec_len vs ≤ limit) }
 {
-    vm_json::into_items(value).ok_or(ConfigError::Kind)
+    let Some(items) = vm_json::into_values(alloc, value) else {
+        return Err(ConfigError::Kind);
+    };
+    if let Err(error) = limited_objects(items.as_slice(), limit) {
+        return Err(error);
+    }
+    Ok(items)
 }
 
 // The objects at a key that has to be there, which are moved out. The rest goes.
 pub(crate) fn take_objects<'a>(
+    alloc: Global,
     object: Value<'a>,
     key: &str,
     limit: usize,
@@ -207,9 +237,7 @@ pub(crate) fn take_objects<'a>(
     ensures few { IfOk result (λ vs. vec_len vs ≤ limit) }
 {
     let value = take_member(object, key).ok_or(ConfigError::Missing)?;
-    let items = take_items(value)?;
-    limited_objects(items.as_slice(), limit)?;
-    Ok(items)
+    take_among(alloc, value, limit)
 }
 
 // Whether each value is a text.
@@ -219,35 +247,45 @@ fn are_texts(values: &[Value<'_>]) -> bool
     values.iter().all(|value| vm_json::text(value).is_some())
 }
 
-// All the values, if they are texts and at most `limit`.
-#[tactic(auto, using(crate::proofs::ValueLemmas::texts_seen, crate::proofs::ValueLemmas::count_seen))]
-fn limited_texts<'v, 'a>(
-    values: &'v [Value<'a>],
-    limit: usize,
-) -> Result<&'v [Value<'a>], ConfigError>
-    ensures texts { Answers result (λ vs. map view vs.now) (among is_text limit (map view values.now)) }
-    ensures few { IfOk result (λ vs. length vs.now ≤ limit) }
+// Whether each item is a text.
+#[tactic(auto, using(crate::proofs::ValueLemmas::values_texts, crate::proofs::ValueLemmas::all_texts))]
+fn has_texts_alone(found: Elements<'_, '_>) -> bool
+    ensures { result ≡ list_all is_text (items_seen found.entry) }
 {
-    if !are_texts(values) {
-        return Err(ConfigError::Kind);
+    match found {
+        Elements::Texts(_) => true,
+        Elements::Values(values) => are_texts(values),
     }
-    if values.len() > limit {
-        return Err(ConfigError::Range);
-    }
-    Ok(values)
 }
 
-// The texts at a key, as values that `text_of` reads, or none where the key is absent.
+// All the items, if they are texts and at most `limit`.
+fn limited_texts<'v, 'a>(
+    found: Elements<'v, 'a>,
+    limit: usize,
+) -> Result<Elements<'v, 'a>, ConfigError>
+    ensures texts { Answers result items_seen (among is_text limit (items_seen found.entry)) }
+    ensures few { IfOk result (λ items. length (items_seen items) ≤ limit) }
+{
+    if !has_texts_alone(found) {
+        return Err(ConfigError::Kind);
+    }
+    if found.len() > limit {
+        return Err(ConfigError::Range);
+    }
+    Ok(found)
+}
+
+// The texts at a key, or none where the key is absent.
 pub(crate) fn texts_or_none<'v, 'a>(
     object: &'v Value<'a>,
     key: &str,
     limit: usize,
-) -> Result<&'v [Value<'a>], ConfigError>
-    ensures texts { Answers result (λ vs. map text_of (map view vs.now)) (texts_or_none limit (get key.now (view object.now))) }
-    ensures few { IfOk result (λ vs. length vs.now ≤ limit) }
+) -> Result<Elements<'v, 'a>, ConfigError>
+    ensures texts { Answers result (λ items. map text_of (items_seen items)) (texts_or_none limit (get key.now (view object.now))) }
+    ensures few { IfOk result (λ items. length (items_seen items) ≤ limit) }
 {
     let Some(value) = member(object, key) else {
-        return Ok(no_values());
+        return Ok(Elements::Texts(no_texts()));
     };
     limited_texts(items(value)?, limit)
 }
@@ -282,18 +320,40 @@ fn falling_percents(values: &[Value<'_>], most: u64) -> Result<Percents, ConfigE
     })
 }
 
-// The percents that a value is.
+// The percents that values are.
 #[tactic(auto, using(crate::proofs::ValueLemmas::whole_seen))]
+fn percents_among(values: &[Value<'_>], most: u64) -> Result<Percents, ConfigError>
+    requires { most ≤ 10000 }
+    ensures percents { result ≡ percents_among most (map view values.now) }
+    ensures falling { IfOk result (AreFalling most) }
+{
+    if !are_whole(values) {
+        return Err(ConfigError::Kind);
+    }
+    falling_percents(values, most)
+}
+
+// What is wrong with texts as percents: without any there are too few.
+fn no_percents(texts: &[&str]) -> ConfigError
+    ensures { (most : ℕ) → percents_among most (map (λ t. string t.now) texts.now) ≡ Err result }
+{
+    if texts.is_empty() {
+        ConfigError::Range
+    } else {
+        ConfigError::Kind
+    }
+}
+
+// The percents that a value is.
 fn percents(value: &Value<'_>, most: u64) -> Result<Percents, ConfigError>
     requires { most ≤ 10000 }
     ensures percents { result ≡ percents_in most (view value.now) }
     ensures falling { IfOk result (AreFalling most) }
 {
-    let values = items(value)?;
-    if !are_whole(values) {
-        return Err(ConfigError::Kind);
+    match items(value)? {
+        Elements::Values(values) => percents_among(values, most),
+        Elements::Texts(texts) => Err(no_percents(texts)),
     }
-    falling_percents(values, most)
 }
 
 // The percents at a key, or their default where there is none.

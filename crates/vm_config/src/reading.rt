@@ -94,7 +94,7 @@ fn keys(alloc: Global, limits: &Limits, root: Value<'_>) -> Result<Config, Fault
     let objects = at(
         Part::Root,
         Key::Guests,
-        take_objects(root, "guests", limits.guests),
+        take_objects(alloc, root, "guests", limits.guests),
     )?;
     let GuestList { domains, autostart } = guests(alloc, limits, numbers.quantum, objects)?;
     Ok(Config {

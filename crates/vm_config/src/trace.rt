@@ -1,16 +1,23 @@
 // The steps of a guest, read from their texts.
-ghost use Rattle.std.specs.Prelude.{◌≡◌, ◌≤◌, [], map, length, All, IfOk};
-ghost use Rattle.vm_json.specs.View.{view};
+ghost use Rattle.std.specs.Prelude.{◌≡◌, ◌≤◌, [], map, length, slice_get, unwrap_or, option_and_then, All, IfOk};
+ghost use Rattle.serde_json.specs.Find.{as_str};
+ghost use Rattle.vm_json.specs.View.{items_seen};
 ghost use Rattle.vm_trace.specs.Limits.{IsStep, IsWithin};
 ghost use Rattle.vm_config.specs.Keys.{text_of};
 ghost use Rattle.vm_config.specs.Outcomes.{IsOrMemory};
 ghost use Rattle.vm_config.specs.Reading.{steps_from};
 
 use crate::error::ConfigError;
-use crate::keys::text_of;
 use std::alloc::Global;
-use vm_json::Value;
+use vm_json::Elements;
 use vm_trace::{PushError, Trace};
+
+// The text that the item at a place is, and of another item the empty text.
+fn text_at<'a>(items: Elements<'_, 'a>, place: usize) -> &'a str
+    ensures { result.now ≡ unwrap_or (option_and_then as_str (slice_get (items_seen items.entry) place)) [] }
+{
+    items.text(place).unwrap_or("")
+}
 
 // The steps, or the first fault with its place.
 pub(crate) fn trace(
@@ -18,19 +25,18 @@ pub(crate) fn trace(
     pages: u32,
     size: u32,
     guest: usize,
-    texts: &[Value<'_>],
+    texts: Elements<'_, '_>,
 ) -> Result<Trace, ConfigError>
     requires some { 1 ≤ pages }
     requires few { pages ≤ 262144 }
-    ensures steps { IsOrMemory result (steps_from pages size guest (map text_of (map view texts.now)) []) }
+    ensures steps { IsOrMemory result (steps_from pages size guest (map text_of (items_seen texts.entry)) []) }
     ensures within { IfOk result (All (IsWithin size)) }
     ensures bounded { IfOk result (All IsStep) }
-    ensures count { IfOk result (λ steps. length steps ≤ length texts.now) }
+    ensures count { IfOk result (λ steps. length steps ≤ length (items_seen texts.entry)) }
 {
     let mut steps = Trace::with_capacity(alloc, texts.len()).map_err(|_| ConfigError::Memory)?;
-    for text in texts {
-        let place = steps.len();
-        match steps.push_text(text_of(text), pages, size) {
+    for place in 0..texts.len() {
+        match steps.push_text(text_at(texts, place), pages, size) {
             Ok(()) => {}
             Err(PushError::Memory) => return Err(ConfigError::Memory),
             Err(PushError::Fault(fault)) => {

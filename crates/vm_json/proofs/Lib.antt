@@ -1,2 +1,3 @@
 pub mod ViewLemmas
 pub mod NumberLemmas
+pub mod TreeLemmas

@@ -1,20 +1,23 @@
 -- The data of a value, beside what `serde_json` reads and finds.
-use Rattle.std.proofs.Common.{◌≡◌, ℕ, List, zero, suc, ◌<◌, length, drop, get_or, map, [], ◌∷◌, ◌++◌, Bool, true, false, true≢false, cond, arith, Option, Some, None, option_map, option_and_then, refl, sym, ap, ◌∙◌}
-use Rattle.std.specs.Prelude.{◌&&◌, is_some}
+use Rattle.std.proofs.Common.{◌≡◌, ℕ, List, zero, suc, ◌<◌, length, drop, get_or, map, [], ◌∷◌, ◌++◌, Bool, true, false, true≢false, cond, arith, Option, Some, None, option_map, option_and_then, Vec, refl, sym, ap, ◌∙◌}
+use Rattle.std.specs.declared.alloc.Global.{Global}
+use Rattle.std.proofs.lemmas.Option.{slice_get-map}
+use Rattle.std.specs.Prelude.{◌&&◌, is_some, slice_get}
 use Rattle.std.specs.Str.{bytes_eq}
 use Rattle.std.proofs.lemmas.Slice.Eq.{bytes_eq-Decides}
 use Rattle.std.specs.Borrow.{Bor}
 use Rattle.json.specs.Json as json
-use Rattle.json.specs.Value.{value_view, items_view, members_view}
-use Rattle.json.proofs.Trees.{get_member-push}
-use Rattle.json.specs.declared.value.Value.{Value}
+use Rattle.vm_json.specs.Tree.{texts_view, value_view, items_view, members_view}
+use Rattle.json.specs.Value.{items_of as tree_items_of}
+use Rattle.vm_json.proofs.TreeLemmas.{get_member-push, view-Texts}
+use Rattle.vm_json.specs.declared.value.Value.{Value, Texts}
 use Rattle.json.specs.Find as found
-use Rattle.serde_json.specs.Data.{Num, Data, number, array, object, Items, item, Members, no_members, put}
-use Rattle.serde_json.specs.Find.{get, get_member}
+use Rattle.serde_json.specs.Data.{Num, Data, number, string, array, object, Items, item, Members, no_members, put}
+use Rattle.serde_json.specs.Find.{as_str, get, get_member}
 use Rattle.serde_json.specs.Read.{of_json, of_items, of_members, number_of, read as read_text}
 use Rattle.serde_json.proofs.Views.{get_member-put, get_member-put_other}
 use Rattle.serde_json.specs.View.{items_of as data_items_of}
-use Rattle.vm_json.specs.View.{json_of, is_readable, are_readable, are_members_readable, view, data_of, items_data, members_data, number_or_null}
+use Rattle.vm_json.specs.View.{begins_with_text, json_of, is_readable, are_readable, are_members_readable, view, data_of, items_data, members_data, number_or_null}
 
 abbrev pub only_if : {A : Type 0} → Bool → A → Option A
 only_if true a = Some a
@@ -108,31 +111,57 @@ get_is q (json.object ms) = members_found q ms no_members ∙ or_none (option_ma
 
 -- ---- lists of values
 
-pub found_in : {A : Type 0} (q : List ℕ) (j : json.Json) (r : Option (Value A)) → option_map value_view r ≡ found.get q j → option_map view r ≡ get q (data_of j)
+pub found_in : (q : List ℕ) (j : json.Json) (r : Option (Value)) → option_map value_view r ≡ found.get q j → option_map view r ≡ get q (data_of j)
 found_in q j None e = ap (option_map data_of) e ∙ sym (get_is q j)
 found_in q j (Some v) e = ap (option_map data_of) e ∙ sym (get_is q j)
 
-pub found_at : {A : Type 0} (q : List ℕ) (j : json.Json) (r : Option (Bor (Value A))) → option_map (λ v. value_view v.now) r ≡ found.get q j → option_map (λ v. view v.now) r ≡ get q (data_of j)
+pub found_at : (q : List ℕ) (j : json.Json) (r : Option (Bor (Value))) → option_map (λ v. value_view v.now) r ≡ found.get q j → option_map (λ v. view v.now) r ≡ get q (data_of j)
 found_at q j None e = ap (option_map data_of) e ∙ sym (get_is q j)
 found_at q j (Some v) e = ap (option_map data_of) e ∙ sym (get_is q j)
 
-pub items_seen : {A : Type 0} (vs : List (Value A)) → data_items_of (map view vs) ≡ items_data (items_view vs)
+pub items_seen : (vs : List (Value)) → data_items_of (map view vs) ≡ items_data (items_view vs)
 items_seen [] = refl
 items_seen (v ∷ vs) = ap (item (view v)) (items_seen vs)
 
-pub items_from : {A : Type 0} (vs : List (Value A)) (i : ℕ) (d : Value A) → i < length vs
+pub items_from : (vs : List (Value)) (i : ℕ) (d : Value) → i < length vs
     → are_readable (items_view (drop i vs)) ≡ is_readable (value_view (get_or vs i d)) && are_readable (items_view (drop (suc i) vs))
 items_from [] i d h = absurd (omega arith)
 items_from (v ∷ vs) zero d h = refl
 items_from (v ∷ vs) (suc i) d h = items_from vs i d (omega arith)
 
-pub members_from : {A : Type 0} (ms : List (Bor (List ℕ) × Value A)) (i : ℕ) (d : Bor (List ℕ) × Value A) → i < length ms
+pub members_from : (ms : List (Bor (List ℕ) × Value)) (i : ℕ) (d : Bor (List ℕ) × Value) → i < length ms
     → are_members_readable (members_view (drop i ms)) ≡ is_readable (value_view (get_or ms i d).1) && are_members_readable (members_view (drop (suc i) ms))
 members_from [] i d h = absurd (omega arith)
 members_from (m ∷ ms) zero d h = refl
 members_from (m ∷ ms) (suc i) d h = members_from ms i d (omega arith)
 
 -- the last of the members, which `pop` takes
-pub popped : {A : Type 0} (q : List ℕ) (ms left : List (Bor (List ℕ) × Value A)) (m : Bor (List ℕ) × Value A) (b : Bool) → ms ≡ left ++ m ∷ [] → bytes_eq m.0.now q ≡ b
+pub popped : (q : List ℕ) (ms left : List (Bor (List ℕ) × Value)) (m : Bor (List ℕ) × Value) (b : Bool) → ms ≡ left ++ m ∷ [] → bytes_eq m.0.now q ≡ b
     → found.get_member q (members_view ms) ≡ cond b (Some (value_view m.1)) (found.get_member q (members_view left))
 popped q ms left m b e same = ap (λ xs. found.get_member q (members_view xs)) e ∙ get_member-push q left m ∙ ap (λ x. cond x (Some (value_view m.1)) (found.get_member q (members_view left))) same
+
+-- texts have no numbers
+texts_readable : (ts : List (Bor (List ℕ))) → are_readable (tree_items_of (texts_view ts)) ≡ true
+texts_readable [] = refl
+texts_readable (t ∷ ts) = texts_readable ts
+
+pub readable_texts : (v : Vec (Bor (List ℕ)) Global) → is_readable (value_view (Texts v)) ≡ true
+readable_texts v = ap is_readable (view-Texts v) ∙ texts_readable v.items
+
+pub texts_seen : (ts : List (Bor (List ℕ))) → data_items_of (map (λ t. string t.now) ts) ≡ items_data (tree_items_of (texts_view ts))
+texts_seen [] = refl
+texts_seen (t ∷ ts) = ap (item (string t.now)) (texts_seen ts)
+
+-- texts begin with a text
+pub text_first : (ts : List (Bor (List ℕ))) → (length ts ≡ 0 → ⊥) → begins_with_text (items_data (tree_items_of (texts_view ts))) ≡ true
+text_first [] some = absurd (some refl)
+text_first (t ∷ ts) some = refl
+
+same_text : (found : Option (Bor (List ℕ))) → option_map (λ t. t.now) found ≡ option_and_then as_str (option_map (λ t. string t.now) found)
+same_text None = refl
+same_text (Some t) = refl
+
+-- a text at a place is the item there
+pub text_at_place : (ts : List (Bor (List ℕ))) (place : ℕ) → slice_get (map (λ t. t.now) ts) place ≡ option_and_then as_str (slice_get (map (λ t. string t.now) ts) place)
+text_at_place ts place =
+    slice_get-map (λ t. t.now) ts place ∙ same_text (slice_get ts place) ∙ ap (option_and_then as_str) (sym (slice_get-map (λ t. string t.now) ts place))

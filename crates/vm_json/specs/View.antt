@@ -1,10 +1,13 @@
 -- The data that a borrowed value stands for.
-use Rattle.std.specs.Prelude.{ℕ, ◌&&◌, List, Bool, true, Option, Some, None, option_and_then, is_some}
+use Rattle.std.specs.Prelude.{ℕ, ◌&&◌, List, map, Bool, true, false, Option, Some, None, option_and_then, is_some}
 use Rattle.json.specs.Json as json
 use Rattle.json.specs.Lex.{tokens}
-use Rattle.json.specs.Value.{value_view}
-use Rattle.json.specs.declared.value.Value.{Value}
+use Rattle.vm_json.specs.declared.value.Value.{Value}
+use Rattle.vm_json.specs.declared.find.Elements.{Elements}
+use Rattle.vm_json.specs.declared.find.Elements.TheVariants.{Texts, Values}
+use Rattle.vm_json.specs.Tree.{value_view}
 use Rattle.serde_json.specs.Data.{Num, Data, null, boolean, number, string, array, object, Items, no_items, item, Members, no_members, put}
+use Rattle.serde_json.specs.Find.{as_str}
 use Rattle.serde_json.specs.Read.{number_of, max_depth}
 
 -- `read` refuses a text with a number out of range, so what it gives has no `None` here
@@ -30,8 +33,18 @@ abbrev mutual
   members_data json.no_members found = found
   members_data (json.member k j ms) found = members_data ms (put k (data_of j) found)
 
-abbrev pub view : {A : Type 0} → Value A → Data
+abbrev pub view : Value → Data
 view v = data_of (value_view v)
+
+-- the items of an array, however they are kept
+abbrev pub items_seen : Elements → List Data
+items_seen (Texts texts) = map (λ t. string t.now) texts.now
+items_seen (Values values) = map view values.now
+
+-- the first item of an array is a text
+abbrev pub begins_with_text : Items → Bool
+begins_with_text no_items = false
+begins_with_text (item d ds) = is_some (as_str d)
 
 -- ---- which texts are read: what the grammar takes, if each number in it has a value
 

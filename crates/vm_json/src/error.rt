@@ -1,4 +1,5 @@
 // Why bytes are refused.
+use std::alloc::AllocError;
 use thiserror::Error;
 
 /// Why bytes are no JSON value.
@@ -10,4 +11,15 @@ pub enum ReadError {
     /// Memory was refused.
     #[error("out of memory")]
     Memory,
+}
+
+impl From<AllocError> for ReadError {
+    ghost use Rattle.std.specs.Prelude.{◌≡◌};
+    ghost use Rattle.vm_json.specs.declared.error.ReadError.TheVariants.{Memory};
+
+    ghost from_gives = { λ _ error. error ≡ Memory };
+
+    fn from(_error: AllocError) -> ReadError {
+        ReadError::Memory
+    }
 }

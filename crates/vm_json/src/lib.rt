@@ -9,9 +9,11 @@ mod error;
 mod find;
 mod number;
 mod reading;
+mod value;
 
 pub use error::ReadError;
-pub use find::{into_items, is_object, items, member, take_member, text, truth};
-pub use json::{Scratch, Value};
+pub use find::{Elements, into_values, is_object, items, member, take_member, text, truth};
+pub use json::Scratch;
 pub use number::whole;
 pub use reading::read;
+pub use value::Value;

@@ -4,8 +4,8 @@ ghost use Rattle.serde_json.specs.Find.{as_number, as_u64};
 ghost use Rattle.serde_json.specs.Read.{number_from, number_of};
 ghost use Rattle.vm_json.specs.View.{view};
 
+use crate::value::Value;
 use fast_float::Numeral;
-use json::Value;
 
 // The greatest number that an `i64` has the negative of.
 const MOST_NEGATIVE: u64 = 1 << 63;
@@ -14,7 +14,11 @@ const MOST_NEGATIVE: u64 = 1 << 63;
 pub fn whole(value: &Value<'_>) -> Option<u64>
     ensures { result ≡ option_and_then as_u64 (as_number (view value.now)) }
 {
-    whole_number(value.as_number()?)
+    if let Value::Number(text) = value {
+        whole_number(*text)
+    } else {
+        None
+    }
 }
 
 fn whole_number(text: &str) -> Option<u64>

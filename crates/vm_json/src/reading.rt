@@ -1,14 +1,15 @@
 // From bytes to a value.
 ghost use Rattle.std.specs.Prelude.{◌≡◌, ◌<◌, length, Some, None, Err, IfOk};
 ghost use Rattle.std.specs.Str.{IsUtf8};
-ghost use Rattle.json.specs.Value.{items_view, members_view, value_view};
+ghost use Rattle.vm_json.specs.Tree.{items_view, members_view, value_view};
 ghost use Rattle.serde_json.specs.Read.{read as read_text};
 ghost use Rattle.vm_json.specs.View.{are_members_readable, are_readable, is_readable, json_of, view};
 ghost use Rattle.vm_json.specs.declared.error.ReadError.TheVariants.{Memory, NotJson};
 
 use crate::error::ReadError;
 use crate::number::is_in_range;
-use json::{Error, Reader, Scratch, Value};
+use crate::value::{Value, read_value};
+use json::{Reader, Scratch};
 use std::alloc::Global;
 
 // How deep arrays and objects may nest.
@@ -53,11 +54,7 @@ fn read_json<'a>(
     let Ok(mut reader) = Reader::new(text, scratch) else {
         return Err(ReadError::Memory);
     };
-    let value = match Value::read(alloc, &mut reader, MAX_DEPTH) {
-        Ok(value) => value,
-        Err(Error::OutOfMemory) => return Err(ReadError::Memory),
-        Err(_) => return Err(ReadError::NotJson),
-    };
+    let value = read_value(alloc, &mut reader, MAX_DEPTH)?;
     if reader.next().is_some() {
         return Err(ReadError::NotJson);
     }
@@ -73,7 +70,8 @@ fn is_readable(value: &Value<'_>) -> bool
         Value::Number(text) => is_in_range(*text),
         Value::Array(items) => are_readable(items),
         Value::Object(members) => are_members_readable(members),
-        Value::Null | Value::Bool(_) | Value::String(_) => true,
+        Value::Texts(_) => true,
+        Value::Null | Value::Bool(_) | Value::Text(_) => true,
     }
 }
 

@@ -3,8 +3,8 @@ use super::check_eq;
 use std::alloc::Global;
 use std::process::Abort;
 use vm_json::{
-    ReadError, Scratch, Value, into_items, is_object, items, member, read, take_member, text,
-    truth, whole,
+    ReadError, Scratch, Value, into_values, is_object, items, member, read, take_member, truth,
+    whole,
 };
 
 // What `read` refuses bytes for.
@@ -91,23 +91,49 @@ fn last_member_of_a_name_counts(rt: HostRuntime) {
     check_eq(&rt, whole(&taken), Some(2));
 }
 
-// Asserts the texts of values.
-fn check_texts(rt: &impl Abort, values: &[Value<'_>], wanted: &[&str]) {
-    for (value, word) in values.iter().zip(wanted) {
-        check_eq(rt, text(value), Some(*word));
+// Asserts which items of an array are texts, and which.
+fn check_items(rt: &impl Abort, array: &Value<'_>, wanted: &[Option<&str>]) {
+    let found = items(array).expect(rt, "an array");
+    check_eq(rt, found.len(), wanted.len());
+    for (place, text) in wanted.iter().enumerate() {
+        check_eq(rt, found.text(place), *text);
     }
+    check_eq(rt, found.text(wanted.len()), None);
+}
+
+// Asserts which items the array of these bytes has.
+fn check_array(rt: &(impl Abort + AllocGlobal), bytes: &[u8], wanted: &[Option<&str>]) {
+    let mut scratch = Scratch::new(rt.alloc());
+    let array = read(rt.alloc(), bytes, &mut scratch).expect(rt, "a value");
+    check_items(rt, &array, wanted);
 }
 
 #[test]
 fn texts_lose_their_escapes(rt: HostRuntime) {
+    let bytes = b" [\"a\\u0041\", \"\\ud83d\\ude00\", \"plain\"] ";
+    check_array(&rt, bytes, &[Some("aA"), Some("😀"), Some("plain")]);
+}
+
+#[test]
+fn items_keep_their_order(rt: HostRuntime) {
+    check_array(&rt, b"[]", &[]);
+    let mixed = b"[\"a\",1,\"b\",[\"c\"]]";
+    check_array(&rt, mixed, &[Some("a"), None, Some("b"), None]);
+    check_array(&rt, b"[null,\"a\"]", &[None, Some("a")]);
+}
+
+// How many values the array of these bytes has, where they can be moved out of it.
+fn moved_out(rt: &(impl Abort + AllocGlobal), bytes: &[u8]) -> Option<usize> {
     let mut scratch = Scratch::new(rt.alloc());
-    let array = read(
-        rt.alloc(),
-        b" [\"a\\u0041\", \"\\ud83d\\ude00\", \"plain\"] ",
-        &mut scratch,
-    )
-    .expect(&rt, "a value");
-    check_eq(&rt, items(&array).expect(&rt, "an array").len(), 3);
-    let values = into_items(array).expect(&rt, "an array");
-    check_texts(&rt, &values, &["aA", "😀", "plain"]);
+    let value = read(rt.alloc(), bytes, &mut scratch).expect(rt, "a value");
+    let values = into_values(rt.alloc(), value)?;
+    Some(values.len())
+}
+
+#[test]
+fn values_are_moved_out(rt: HostRuntime) {
+    check_eq(&rt, moved_out(&rt, b"[]"), Some(0));
+    check_eq(&rt, moved_out(&rt, b"[{},\"a\"]"), Some(2));
+    check_eq(&rt, moved_out(&rt, b"[\"a\",\"b\"]"), None);
+    check_eq(&rt, moved_out(&rt, b"{}"), None);
 }

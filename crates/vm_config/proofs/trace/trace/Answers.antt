@@ -1,25 +1,35 @@
-use Rattle.std.proofs.Common.{◌≡◌, ◌∷◌, [], length, Ok, ap, sym, ◌∙◌, arith}
+use Rattle.std.proofs.Common.{◌<◌, ◌∷◌, [], length, Err, ap, sym, ◌∙◌, inl, arith}
 use Rattle.std.proofs.lemmas.List.{length-append}
 use Rattle.std.proofs.lemmas.List.Elements.{All-push}
-use Rattle.vm_json.specs.View.{view}
+use Rattle.vm_json.specs.View.{items_seen}
 use Rattle.vm_trace.specs.Limits.{IsStep, IsWithin}
-use Rattle.vm_trace.specs.Sized.{step_in}
-use Rattle.vm_config.specs.Keys.{text_of}
+use Rattle.vm_config.specs.declared.error.ConfigError.TheVariants.{Trace}
 use Rattle.vm_config.specs.Reading.{at_place}
-use Rattle.vm_config.proofs.TraceLemmas.{steps_from_next}
+use Rattle.vm_config.proofs.TraceLemmas.{steps_from_next, steps_from_fault}
 use Rattle.vm_config.proofs.trace.trace.Goals as goal
 
-pub loop-text-preserved : goal.loop-text-preserved
-loop-text-preserved c =
-    let invariant = c.loop-text.invariant in
+pub loop-place-preserved : goal.loop-place-preserved
+loop-place-preserved c =
+    let invariant = c.loop-place.invariant in
     let pushed = c.in-Ok.ensures.ok in
-    let read : at_place c.args.guest (length c.loop-text.steps) (step_in c.args.pages c.args.size (text_of (view c.text-item.result))) ≡ Ok pushed.step =
-    ap (λ text. at_place c.args.guest (length c.loop-text.steps) (step_in c.args.pages c.args.size text)) (sym c.text_of.ensures) ∙ ap (at_place c.args.guest (length c.loop-text.steps)) pushed.read in
+    let items = items_seen c.args.texts in
+    let below : c.loop-place.place < length items = let test = c.loop-place-test.true in let all = c.len-place-end.ensures in omega arith in
     record {
       completes = rw pushed.added
-          (steps_from_next c.args.pages c.args.size c.args.guest c.args.texts.now c.loop-text.text-index c.text-item.result c.loop-text.steps pushed.step c.loop-text-test.true c.text-item.is read
+          (steps_from_next c.args.pages c.args.size c.args.guest items c.loop-place.place c.text_at.result.now c.loop-place.steps pushed.step below c.text_at.ensures
+          (ap (at_place c.args.guest (length c.loop-place.steps)) pushed.read)
           ∙ invariant.completes);
-      within = rw pushed.added (All-push (IsWithin c.args.size) c.loop-text.steps pushed.step invariant.within pushed.within);
-      bounded = rw pushed.added (All-push IsStep c.loop-text.steps pushed.step invariant.bounded pushed.limits);
-      count = let few = invariant.count in rw pushed.added (omega (arith, few, length-append c.loop-text.steps (pushed.step ∷ [])));
+      within = rw pushed.added (All-push (IsWithin c.args.size) c.loop-place.steps pushed.step invariant.within pushed.within);
+      bounded = rw pushed.added (All-push IsStep c.loop-place.steps pushed.step invariant.bounded pushed.limits);
+      count = let few = invariant.count in rw pushed.added (omega (arith, few, length-append c.loop-place.steps (pushed.step ∷ [])));
     }
+
+pub returns-in-Err-Fault-clause-steps : goal.returns-in-Err-Fault-clause-steps
+returns-in-Err-Fault-clause-steps c =
+    let invariant = c.loop-place.invariant in
+    let items = items_seen c.args.texts in
+    let same = c.in-Err-Fault.fault-is in
+    let read = c.in-Err-Fault.ensures.fault c.in-Err-Fault.fault (ap Err c.in-Err-Fault.field-0-is) in
+    let below : c.loop-place.place < length items = let test = c.loop-place-test.true in let all = c.len-place-end.ensures in omega arith in
+    let wanted = sym invariant.completes ∙ steps_from_fault c.args.pages c.args.size c.args.guest items c.loop-place.place c.text_at.result.now c.loop-place.steps c.in-Err-Fault.fault below c.text_at.ensures invariant.count read in
+    inl (ap (λ fault. Err (Trace c.args.guest c.loop-place.place fault)) same ∙ sym wanted)

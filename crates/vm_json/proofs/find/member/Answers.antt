@@ -1,6 +1,15 @@
-use Rattle.json.specs.Value.{value_view}
+use Rattle.std.proofs.Common.{◌∙◌, sym, ap}
+use Rattle.json.specs.Find.{get_member}
+use Rattle.json.specs.Json.{object}
+use Rattle.serde_json.specs.Find.{get}
+use Rattle.vm_json.specs.Tree.{members_view}
+use Rattle.vm_json.specs.View.{view, data_of}
+use Rattle.vm_json.proofs.TreeLemmas.{view-Object}
 use Rattle.vm_json.proofs.ViewLemmas.{found_at}
 use Rattle.vm_json.proofs.find.member.Goals as goal
 
-pub returns : goal.returns
-returns c = found_at c.args.name.now (value_view c.args.object.now) c.get.result c.get.ensures
+pub returns-in-Object : goal.returns-in-Object
+returns-in-Object c =
+    let name = c.args.name.now in
+    found_at name (object (members_view c.in-Object.members.items)) c.last.result (c.last.ensures ∙ ap (λ ms. get_member name (members_view ms)) c.deref.ensures.value)
+    ∙ sym (ap (λ v. get name (view v)) c.in-Object.is ∙ ap (λ j. get name (data_of j)) (view-Object c.in-Object.members))

@@ -1,6 +1,6 @@
 use Rattle.std.proofs.Common.{◌≡◌, length}
 use Rattle.json.specs.Find.{get_member}
-use Rattle.json.specs.Value.{members_view}
+use Rattle.vm_json.specs.Tree.{members_view}
 use Rattle.vm_json.proofs.find.take_last.Given as goal
 
 abbrev pub invariant-loop-key : goal.invariant-loop-key

@@ -1,7 +1,7 @@
 use Rattle.std.proofs.Common.{◌∙◌, sym, ap}
 use Rattle.json.specs.Json.{object}
-use Rattle.json.specs.Value.{members_view}
-use Rattle.json.proofs.Trees.{view-Object}
+use Rattle.vm_json.specs.Tree.{members_view}
+use Rattle.vm_json.proofs.TreeLemmas.{view-Object}
 use Rattle.serde_json.specs.Find.{get}
 use Rattle.vm_json.specs.View.{view, data_of}
 use Rattle.vm_json.proofs.ViewLemmas.{found_in}

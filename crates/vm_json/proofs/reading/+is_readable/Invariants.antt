@@ -1,5 +1,5 @@
 use Rattle.std.proofs.Common.{◌≡◌, drop}
-use Rattle.json.specs.Value.{items_view, members_view}
+use Rattle.vm_json.specs.Tree.{items_view, members_view}
 use Rattle.vm_json.specs.View.{are_members_readable, are_readable}
 use Rattle.vm_json.proofs.reading.+is_readable.Given as goal
 

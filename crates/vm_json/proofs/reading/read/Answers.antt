@@ -1,5 +1,5 @@
 use Rattle.std.proofs.Common.{◌≡◌, ap, ◌∙◌, sym, true, false, arith, Some, None}
-use Rattle.json.specs.Value.{value_view}
+use Rattle.vm_json.specs.Tree.{value_view}
 use Rattle.serde_json.specs.Read.{read as read_text}
 use Rattle.vm_json.specs.View.{is_readable, view}
 use Rattle.vm_json.proofs.ViewLemmas.{none_where, whole_where}

@@ -9,7 +9,7 @@ unfolding lex punctuate
 some_text [] h = absurd (true≢false (sym h))
 some_text (x ∷ xs) h = omega arith
 
-pub returns-in-Err-OutOfMemory-clause-memory : goal.returns-in-Err-OutOfMemory-clause-memory
-returns-in-Err-OutOfMemory-clause-memory c e =
-    let opened : IsTrue (opens c.in-Ok.reader) = c.read.ensures.memory (grind arith) in
+pub returns-in_err-value-clause-memory : goal.returns-in_err-value-clause-memory
+returns-in_err-value-clause-memory c e =
+    let opened : IsTrue (opens c.in-Ok.reader) = c.read_value.ensures.memory (grind arith) in
     some_text c.args.text.now (rw c.in-Ok.ensures.ok at opened)

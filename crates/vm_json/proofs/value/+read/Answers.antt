@@ -1,0 +1,182 @@
+use Rattle.std.proofs.Common.{◌≡◌, ◌-◌, ◌<◌, [], ◌∷◌, ◌++◌, length, Some, None, sym, ap, ap₂, ◌∙◌, arith, rules}
+use Rattle.json.specs.Token.{Token}
+use Rattle.json.specs.Json.{Json, array, object, parse_map, after_end_array, read_key, items, members, value}
+use Rattle.json.specs.Reads.{token_of}
+use Rattle.json.proofs.Grammar.{value_is, value-begin_array, value-begin_object, read_key-shorter, items_end, items_fail, items_more, members_end, members_no_key, members_fail, members_more}
+use Rattle.vm_json.specs.Tree.{array_at, gathered, value_view}
+use Rattle.vm_json.specs.declared.value.Value.{Text, Number, Bool, Null, the_lemmas}
+use Rattle.vm_json.proofs.TreeLemmas.{items_before, members_before, items_before-no_items, members_before-no_members, one_more_item, one_more_member, none_before, view-Object}
+use Rattle.vm_json.proofs.value.+read.Goals as goal
+
+pub read_value-returns-in_err-token-clause-invalid : goal.read_value-returns-in_err-token-clause-invalid
+read_value-returns-in_err-token-clause-invalid t c invalid =
+    let empty : c.args.reader.now ≡ [] = grind arith in
+    ap (value c.args.depth) empty ∙ value_is c.args.depth []
+
+pub read_value-returns-then-depth-eq0-clause-invalid : goal.read_value-returns-then-depth-eq0-clause-invalid
+unfolding value
+read_value-returns-then-depth-eq0-clause-invalid t c never =
+    let first : c.args.reader.now ≡ token_of c.in_ok-token.token ∷ c.next.new.self = grind arith in
+    let none : c.args.depth ≡ 0 = omega arith in
+    ap₂ value none (first ∙ ap (λ k. token_of k ∷ c.next.new.self) c.in-BeginArray.is)
+
+pub read_value-returns-then-depth-eq0-2-clause-invalid : goal.read_value-returns-then-depth-eq0-2-clause-invalid
+unfolding value
+read_value-returns-then-depth-eq0-2-clause-invalid t c never =
+    let first : c.args.reader.now ≡ token_of c.in_ok-token.token ∷ c.next.new.self = grind arith in
+    let none : c.args.depth ≡ 0 = omega arith in
+    ap₂ value none (first ∙ ap (λ k. token_of k ∷ c.next.new.self) c.in-BeginObject.is)
+
+pub read_value-returns-in_err-array-in-BeginArray-clause-invalid : goal.read_value-returns-in_err-array-in-BeginArray-clause-invalid
+read_value-returns-in_err-array-in-BeginArray-clause-invalid t c invalid =
+    let first : c.args.reader.now ≡ token_of c.in_ok-token.token ∷ c.next.new.self = grind arith in
+    let opened = ap (value c.args.depth) (first ∙ ap (λ k. token_of k ∷ c.next.new.self) c.in-BeginArray.is) ∙ value-begin_array c.args.depth c.next.new.self (omega arith) in
+    let failed : items (value (c.args.depth - 1)) (length c.next.new.self) c.next.new.self ≡ None = grind arith in
+    opened ∙ ap (parse_map array) failed
+
+pub read_value-returns-in_ok-array-in-BeginArray-clause-ok : goal.read_value-returns-in_ok-array-in-BeginArray-clause-ok
+read_value-returns-in_ok-array-in-BeginArray-clause-ok t c =
+    let first : c.args.reader.now ≡ token_of c.in_ok-token.token ∷ c.next.new.self = grind arith in
+    let opened = ap (value c.args.depth) (first ∙ ap (λ k. token_of k ∷ c.next.new.self) c.in-BeginArray.is) ∙ value-begin_array c.args.depth c.next.new.self (omega arith) in
+    opened ∙ c.in_ok-array-in-BeginArray.ensures.ok
+
+pub read_value-returns-in_err-members-in-BeginObject-clause-invalid : goal.read_value-returns-in_err-members-in-BeginObject-clause-invalid
+read_value-returns-in_err-members-in-BeginObject-clause-invalid t c invalid =
+    let first : c.args.reader.now ≡ token_of c.in_ok-token.token ∷ c.next.new.self = grind arith in
+    let opened = ap (value c.args.depth) (first ∙ ap (λ k. token_of k ∷ c.next.new.self) c.in-BeginObject.is) ∙ value-begin_object c.args.depth c.next.new.self (omega arith) in
+    let failed : members (value (c.args.depth - 1)) (length c.next.new.self) c.next.new.self ≡ None = grind arith in
+    opened ∙ ap (parse_map object) failed
+
+pub read_value-returns-in_ok-members-in-BeginObject-clause-ok : goal.read_value-returns-in_ok-members-in-BeginObject-clause-ok
+read_value-returns-in_ok-members-in-BeginObject-clause-ok t c =
+    let first : c.args.reader.now ≡ token_of c.in_ok-token.token ∷ c.next.new.self = grind arith in
+    let opened = ap (value c.args.depth) (first ∙ ap (λ k. token_of k ∷ c.next.new.self) c.in-BeginObject.is) ∙ value-begin_object c.args.depth c.next.new.self (omega arith) in
+    opened ∙ ap (parse_map object) c.in_ok-members-in-BeginObject.ensures.ok ∙ ap (λ j. Some (j, c.read_members.new.reader)) (sym (view-Object c.in_ok-members-in-BeginObject.members))
+
+pub read_value-returns-in-String-clause-ok : goal.read_value-returns-in-String-clause-ok
+read_value-returns-in-String-clause-ok t c =
+    let first : c.args.reader.now ≡ token_of c.in_ok-token.token ∷ c.next.new.self = grind arith in
+    let is : c.args.reader.now ≡ Token.string c.in-String.text.now ∷ c.next.new.self = grind (arith, first) in
+    let seen : value_view (Text c.in-String.text) ≡ Json.string c.in-String.text.now = search (rules, the_lemmas) in
+    ap (value c.args.depth) is ∙ value_is c.args.depth _ ∙ ap (λ j. Some (j, c.next.new.self)) (sym seen)
+
+pub read_value-returns-in-Number-clause-ok : goal.read_value-returns-in-Number-clause-ok
+read_value-returns-in-Number-clause-ok t c =
+    let first : c.args.reader.now ≡ token_of c.in_ok-token.token ∷ c.next.new.self = grind arith in
+    let is : c.args.reader.now ≡ Token.number c.in-Number.text.now ∷ c.next.new.self = grind (arith, first) in
+    let seen : value_view (Number c.in-Number.text) ≡ Json.number c.in-Number.text.now = search (rules, the_lemmas) in
+    ap (value c.args.depth) is ∙ value_is c.args.depth _ ∙ ap (λ j. Some (j, c.next.new.self)) (sym seen)
+
+pub read_value-returns-in-Bool-clause-ok : goal.read_value-returns-in-Bool-clause-ok
+read_value-returns-in-Bool-clause-ok t c =
+    let first : c.args.reader.now ≡ token_of c.in_ok-token.token ∷ c.next.new.self = grind arith in
+    let is : c.args.reader.now ≡ Token.boolean c.in-Bool.b ∷ c.next.new.self = grind (arith, first) in
+    let seen : value_view (Bool c.in-Bool.b) ≡ Json.boolean c.in-Bool.b = search (rules, the_lemmas) in
+    ap (value c.args.depth) is ∙ value_is c.args.depth _ ∙ ap (λ j. Some (j, c.next.new.self)) (sym seen)
+
+pub read_value-returns-in-Null-clause-ok : goal.read_value-returns-in-Null-clause-ok
+read_value-returns-in-Null-clause-ok t c =
+    let first : c.args.reader.now ≡ token_of c.in_ok-token.token ∷ c.next.new.self = grind arith in
+    let is : c.args.reader.now ≡ Token.null ∷ c.next.new.self = grind (arith, first) in
+    let seen : value_view Null ≡ Json.null = search (rules, the_lemmas) in
+    ap (value c.args.depth) is ∙ value_is c.args.depth _ ∙ ap (λ j. Some (j, c.next.new.self)) (sym seen)
+
+pub read_value-returns-in-EndObject-clause-invalid : goal.read_value-returns-in-EndObject-clause-invalid
+read_value-returns-in-EndObject-clause-invalid t c invalid =
+    let first : c.args.reader.now ≡ token_of c.in_ok-token.token ∷ c.next.new.self = grind arith in
+    rw (value_is c.args.depth c.args.reader.now, first) (grind arith)
+
+pub read_items-loop-reader-init : goal.read_items-loop-reader-init
+read_items-loop-reader-init t c =
+    let none : gathered c.new-texts.result.items c.new-values.result.items ≡ [] = λ i. gathered (c.new-texts.ensures.items i) (c.new-values.ensures.items i) in (
+      length c.args.reader.now,
+      omega arith,
+      none_before _ ∙ ap (λ js. parse_map (items_before js) (items (value c.args.depth) (length c.args.reader.now) c.args.reader.now)) (sym none),
+      omega arith,
+    )
+
+pub read_items-returns-in_err-item-clause-invalid : goal.read_items-returns-in_err-item-clause-invalid
+read_items-returns-in_err-item-clause-invalid t c invalid =
+    let p = value c.args.depth in
+    let l = c.loop-reader in
+    let n = l.invariant.0 in
+    let going : (after_end_array l.reader ≡ None) × (c.take_end_array.new.self ≡ l.reader) = grind arith in
+    let failed : p c.take_end_array.new.self ≡ None = grind arith in
+    l.invariant.2 ∙ ap (parse_map (items_before (gathered l.texts.items l.values.items))) (items_fail p n l.reader going.0 (rw (← going.1) failed))
+
+pub read_items-loop-reader-preserved : goal.read_items-loop-reader-preserved
+read_items-loop-reader-preserved t c =
+    let p = value c.args.depth in
+    let l = c.loop-reader in
+    let n = l.invariant.0 in
+    let going : (after_end_array l.reader ≡ None) × (c.take_end_array.new.self ≡ l.reader) = grind arith in
+    let done = c.in_ok-item.ensures in
+    let v = c.in_ok-item.item in
+    let r = c.read_value.new.reader in
+    let before = gathered l.texts.items l.values.items in
+    let less : length r < length l.reader = rw (← going.1) done.shorter in
+    let pushed : gathered c.gather.new.texts.items c.gather.new.values.items ≡ before ++ value_view v ∷ [] = search rules in
+    let turn = items_more p n l.reader r (value_view v) (omega (arith, l.invariant.1)) going.0 (rw (← going.1) done.ok) in (
+      n - 1,
+      omega (arith, l.invariant.1),
+      l.invariant.2 ∙ ap (parse_map (items_before before)) turn ∙ one_more_item before (value_view v) _ ∙ ap (λ js. parse_map (items_before js) (items p (n - 1) r)) (sym pushed),
+      omega (arith, l.invariant.3),
+    )
+
+pub read_items-returns-clause-ok : goal.read_items-returns-clause-ok
+read_items-returns-clause-ok t c =
+    let p = value c.args.depth in
+    let l = c.loop-reader in
+    let n = l.invariant.0 in
+    let r = c.take_end_array.new.self in
+    let before = gathered l.texts.items l.values.items in
+    ap array_at (l.invariant.2 ∙ ap (parse_map (items_before before)) (items_end p n l.reader r l.invariant.1 (grind arith)) ∙ ap (λ js. Some (js, r)) (items_before-no_items before))
+    ∙ ap (λ j. Some (j, r)) (sym c.in_ok-array.ensures.ok)
+
+pub read_members-returns-in_default-clause-invalid : goal.read_members-returns-in_default-clause-invalid
+read_members-returns-in_default-clause-invalid t c invalid =
+    let p = value c.args.depth in
+    let l = c.loop-next in
+    let n = l.invariant.0 in
+    l.invariant.2 ∙ ap (parse_map (members_before l.found.items)) (members_no_key p n l.reader c.in_default.ensures.value)
+
+pub read_members-returns-in_default-next-clause-ok : goal.read_members-returns-in_default-next-clause-ok
+read_members-returns-in_default-next-clause-ok t c =
+    let p = value c.args.depth in
+    let l = c.loop-next in
+    let n = l.invariant.0 in
+    let r = c.next_key.new.self in
+    l.invariant.2 ∙ ap (parse_map (members_before l.found.items)) (members_end p n l.reader r l.invariant.1 (grind arith)) ∙ ap (λ ms. Some (ms, r)) (members_before-no_members l.found.items)
+
+pub read_members-returns-in_err-member-clause-invalid : goal.read_members-returns-in_err-member-clause-invalid
+read_members-returns-in_err-member-clause-invalid t c invalid =
+    let p = value c.args.depth in
+    let l = c.loop-next in
+    let n = l.invariant.0 in
+    let k = c.in-Some.key.now in
+    let s = c.next_key.new.self in
+    let key : read_key l.reader ≡ Some (Some k, s) = grind arith in
+    let failed : p s ≡ None = grind arith in
+    l.invariant.2 ∙ ap (parse_map (members_before l.found.items)) (members_fail p n k l.reader s key failed)
+
+pub read_members-loop-next-preserved : goal.read_members-loop-next-preserved
+read_members-loop-next-preserved t c =
+    let p = value c.args.depth in
+    let l = c.loop-next in
+    let n = l.invariant.0 in
+    let k = c.in-Some.key.now in
+    let s = c.next_key.new.self in
+    let key : read_key l.reader ≡ Some (Some k, s) = grind arith in
+    let done = c.in_ok-member.ensures in
+    let v = c.in_ok-member.member in
+    let r = c.read_value.new.reader in
+    let less = read_key-shorter l.reader (Some k) s key in
+    let lesser = done.shorter in
+    let pushed : c.add.new.items.items ≡ l.found.items ++ (c.in-Some.key, v) ∷ [] = search rules in
+    let turn = members_more p n k l.reader s r (value_view v) (omega (arith, l.invariant.1)) key done.ok in (
+      n - 1,
+      omega (arith, l.invariant.1),
+      l.invariant.2 ∙ ap (parse_map (members_before l.found.items)) turn ∙ one_more_member l.found.items (c.in-Some.key, v) _
+          ∙ ap (λ ms. parse_map (members_before ms) (members p (n - 1) r)) (sym pushed),
+      omega (arith, l.invariant.3),
+    )
