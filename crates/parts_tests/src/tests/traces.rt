@@ -249,28 +249,36 @@ fn check_refused(rt: &impl Abort, trace: &mut Trace, fault: TraceError, texts: &
     check_eq(rt, trace.len(), 0);
 }
 
+// Asserts the first faults of texts whose words or numbers are no step's.
+fn check_faulty_words(rt: &impl Abort, trace: &mut Trace) {
+    let no_steps = &["", "r 0 0", "r 0 0 1 1", "r  0 0 1", "r 0 0 1 ", "w 0 0 "];
+    check_refused(rt, trace, TraceError::Unknown, no_steps);
+    let no_numbers = &["r a 0 1", "w 0 00000000000 ff", "r 0 0 +1"];
+    check_refused(rt, trace, TraceError::Number, no_numbers);
+}
+
+// Asserts the first faults of texts that are out of a range.
+fn check_ranges(rt: &impl Abort, trace: &mut Trace) {
+    let pages = &["r 8 0 1", "r 65536 0 1", "w 8 0 ff", "f 8"];
+    check_refused(rt, trace, TraceError::Range, pages);
+    let reads = &["r 0 4096 1", "r 0 0 17", "r 0 0 0", "r 0 4095 2"];
+    check_refused(rt, trace, TraceError::Range, reads);
+    check_refused(rt, trace, TraceError::Range, &["w 0 4095 ffff"]);
+}
+
+// Asserts the first faults of texts with other bytes than a step may have, which come before a page that isn't the guest's.
+fn check_faulty_bytes(rt: &impl Abort, trace: &mut Trace) {
+    check_refused(rt, trace, TraceError::Hex, &["w 8 0 fg", "w 0 0 fff"]);
+    let long = &["w 0 0 00112233445566778899aabbccddeeff00"];
+    check_refused(rt, trace, TraceError::Length, long);
+}
+
 #[test]
 fn texts_with_a_fault_add_nothing(rt: HostRuntime) {
     let mut trace = Trace::new(rt.alloc());
-    let no_steps = ["", "r 0 0", "r 0 0 1 1", "r  0 0 1", "r 0 0 1 ", "w 0 0 "];
-    check_refused(&rt, &mut trace, TraceError::Unknown, &no_steps);
-    let no_numbers = ["r a 0 1", "w 0 00000000000 ff", "r 0 0 +1"];
-    check_refused(&rt, &mut trace, TraceError::Number, &no_numbers);
-    let reads = [
-        "r 8 0 1",
-        "r 65536 0 1",
-        "r 0 4096 1",
-        "r 0 0 17",
-        "r 0 0 0",
-        "r 0 4095 2",
-    ];
-    check_refused(&rt, &mut trace, TraceError::Range, &reads);
-    let others = ["w 8 0 ff", "w 0 4095 ffff", "f 8"];
-    check_refused(&rt, &mut trace, TraceError::Range, &others);
-    // The bytes of a text are looked at before its page is one of the guest's.
-    check_refused(&rt, &mut trace, TraceError::Hex, &["w 8 0 fg", "w 0 0 fff"]);
-    let long = "w 0 0 00112233445566778899aabbccddeeff00";
-    check_refused(&rt, &mut trace, TraceError::Length, &[long]);
+    check_faulty_words(&rt, &mut trace);
+    check_ranges(&rt, &mut trace);
+    check_faulty_bytes(&rt, &mut trace);
 }
 
 #[test]
