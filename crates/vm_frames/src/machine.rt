@@ -1,6 +1,5 @@
-ghost use Rattle.std.specs.Prelude.{◌≡◌, ◌+◌, ◌<◌, ◌≤◌, [], IfOk, OnOk, IfSome, IfNone, IsTrue, false, vec_capacity};
+ghost use Rattle.std.specs.Prelude.{◌≡◌, ◌+◌, ◌<◌, IfOk, IfSome, IfNone, IsTrue, false};
 ghost use Rattle.std.specs.FinSet as set;
-ghost use Rattle.vm_frames.specs.KeptFrames.{numbers_of, numbers_below, without, AreDistinctIn};
 
 use crate::frame::Frame;
 use crate::memory::Memory;
@@ -10,10 +9,16 @@ use std::marker::Model;
 /// The frames of a machine, of which it keeps those that nobody holds.
 ///
 /// A contract sees it as how many frames there are, `total`, and the set of the numbers of those that somebody holds, `out`.
+/// A frame is made when it is first taken. Before, the machine keeps 8 bytes for it.
 /// It isn't `Drop`: [`Machine::close`] ends it, once each frame is back. No call but [`Machine::new`] takes memory, and each of
 /// the others but `close` takes constant time.
 pub struct Machine {
     total: u32,
+    // How many were made, with the numbers below it.
+    made: u32,
+    // Memory of the others. `None` says that there are no others.
+    unmade: Option<Memory>,
+    // Those that were made and came back. It has room for all.
     free: Vec<Frame>,
 }
 
@@ -26,9 +31,9 @@ impl Model for Machine {
 
     ghost coded = { machine_code };
 
-    ghost view = { λ m. machine_of m.total m.free.items };
+    ghost view = { λ m. machine_of m.total m.made m.free.items };
 
-    ghost invariant = { λ m. KeepsFrames m.total (vec_capacity m.free) m.free.items };
+    ghost invariant = { λ m. KeepsFrames m.total m.made m.unmade (vec_capacity m.free) m.free.items };
 }
 
 impl Machine {
@@ -39,17 +44,13 @@ impl Machine {
         ensures { IfOk result (λ m. m ≡ record { total = frames; out = set.empty }) }
     {
         let memory = Memory::new(alloc, frames)?;
-        let mut free = Vec::with_capacity(alloc, frames as usize)?;
-        match fill(memory, &mut free, frames) {
-            Ok(()) => Ok(Machine {
-                total: frames,
-                free,
-            }),
-            Err(error) => {
-                discard(free);
-                Err(error)
-            }
-        }
+        let free = Vec::with_capacity(alloc, frames as usize)?;
+        Ok(Machine {
+            total: frames,
+            made: 0,
+            unmade: Some(memory),
+            free,
+        })
     }
 
     /// A free frame, with whatever bytes its last holder left, or `None` where somebody holds each of them.
@@ -61,7 +62,13 @@ impl Machine {
         ensures was_free { IfSome result (λ f. set.contains self.old.out f.number ≡ false) }
         ensures taken { IfSome result (λ f. self.new ≡ record self.old { out = set.insert self.old.out f.number }) }
     {
-        self.free.pop()
+        if let Some(frame) = self.free.pop() {
+            return Some(frame);
+        }
+        let (frame, left) = Frame::new(self.unmade.take()?, self.made)?;
+        self.unmade = Some(left);
+        self.made += 1;
+        Some(frame)
     }
 
     /// Takes a frame back.
@@ -76,7 +83,7 @@ impl Machine {
     pub fn free(&self) -> u32
         ensures { result + set.len self.now.out ≡ self.now.total }
     {
-        self.free.len() as u32
+        self.total - self.made + self.free.len() as u32
     }
 
     /// How many frames the machine has.
@@ -90,27 +97,15 @@ impl Machine {
     pub fn close(self)
         requires { set.len self.out ≡ 0 }
     {
-        let Machine { total: _, free } = self;
+        let Machine {
+            total: _,
+            made: _,
+            unmade,
+            free,
+        } = self;
+        drop(unmade);
         discard(free);
     }
-}
-
-// Adds frames of zeros until there are `frames`.
-fn fill(memory: Memory, free: &mut Vec<Frame>, frames: u32) -> Result<(), AllocError>
-    requires enough { memory.rest.count ≡ frames }
-    requires empty { free.old.items ≡ [] }
-    requires room { frames ≤ vec_capacity free.old }
-    ensures distinct { OnOk result (AreDistinctIn (numbers_below frames) (numbers_of free.new.items)) }
-    ensures all { OnOk result (without (numbers_below frames) (numbers_of free.new.items) ≡ set.empty) }
-    ensures room { frames ≤ vec_capacity free.new }
-{
-    let mut left = memory;
-    for number in (0..frames).rev() {
-        let (frame, rest) = Frame::new(left, number)?;
-        left = rest;
-        free.push_reserved(frame);
-    }
-    Ok(())
 }
 
 // Frees the memory of frames that nobody will use again.
