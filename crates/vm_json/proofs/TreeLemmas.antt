@@ -1,5 +1,5 @@
 -- A tree, level by level, and lists that grow at their end.
-use Rattle.std.proofs.Common.{◌≡◌, ℕ, Bool, true, false, cond, ◌∙◌, List, [], ◌∷◌, ◌++◌, Option, Some, None, refl, ap, rules, Vec}
+use Rattle.std.proofs.Common.{◌≡◌, ℕ, Bool, true, false, cond, ◌∙◌, List, [], ◌∷◌, ◌++◌, Option, Some, None, refl, sym, ap, rules, Vec}
 use Rattle.std.specs.Borrow.{Bor}
 use Rattle.std.specs.declared.alloc.Global.{Global}
 use Rattle.std.specs.Str.{bytes_eq}
@@ -7,7 +7,8 @@ use Rattle.json.specs.Find.{later_or, get_member}
 use Rattle.json.specs.Json.{Json, array, object, Items, no_items, item, Members, no_members, member, parse_map}
 use Rattle.json.specs.Token.{Token}
 use Rattle.json.specs.Value.{items_of}
-use Rattle.vm_json.specs.Tree.{texts_view, items_view, members_view, value_view}
+use Rattle.std.proofs.lemmas.List.{append_assoc, map_push}
+use Rattle.vm_json.specs.Tree.{gathered, texts_view, items_view, members_view, value_view}
 use Rattle.vm_json.specs.declared.value.Value.{Value, Texts, Array, Object, the_lemmas}
 
 pub view-Texts : (v : Vec (Bor (List ℕ)) Global) → value_view (Texts v) ≡ array (items_of (texts_view v.items))
@@ -47,6 +48,11 @@ members_push (n ∷ ms) m rest = ap (member n.0.now (value_view n.1)) (members_p
 pub one_more_item : (js : List Json) (j : Json) (r : Option (Items × List Token)) → parse_map (items_before js) (parse_map (item j) r) ≡ parse_map (items_before (js ++ j ∷ [])) r
 one_more_item js j None = refl
 one_more_item js j (Some p) = ap (λ is. Some (is, p.1)) (items_push js j p.0)
+
+-- a value behind all items
+pub gathered_push : (texts : List (Bor (List ℕ))) (values : List Value) (v : Value) (more : List Value) → more ≡ values ++ v ∷ [] → gathered texts more ≡ gathered texts values ++ value_view v ∷ []
+gathered_push texts values v more pushed =
+    ap (gathered texts) pushed ∙ ap (λ vs. texts_view texts ++ vs) (map_push value_view values v) ∙ sym (append_assoc (texts_view texts) _ _)
 
 pub one_more_member : (ms : List (Bor (List ℕ) × Value)) (m : Bor (List ℕ) × Value) (r : Option (Members × List Token))
     → parse_map (members_before ms) (parse_map (member m.0.now (value_view m.1)) r) ≡ parse_map (members_before (ms ++ m ∷ [])) r

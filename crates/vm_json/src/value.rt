@@ -1,7 +1,7 @@
 // A JSON value as a tree, and how it is read.
-ghost use Rattle.std.specs.Prelude.{◌≡◌, ◌<◌, ◌++◌, ◌∷◌, [], length, Some, None, Err, IfErr, IfOk, OnOk, IsTrue};
-ghost use Rattle.json.specs.Json.{array, items, members, value};
-ghost use Rattle.json.specs.Reads.{opens};
+ghost use Rattle.std.specs.Prelude.{◌≡◌, ◌<◌, ◌≤◌, ◌++◌, ◌∷◌, [], length, Some, None, Err, IfErr, IfOk, OnOk, IsTrue};
+ghost use Rattle.json.specs.Json.{array, items, members, string, value};
+ghost use Rattle.json.specs.Reads.{opens, token_of};
 ghost use Rattle.json.specs.Value.{items_of};
 ghost use Rattle.vm_json.specs.Tree.{array_at, gathered, members_view, value_view};
 ghost use Rattle.vm_json.specs.declared.error.ReadError.TheVariants.{Memory, NotJson};
@@ -31,21 +31,20 @@ pub enum Value<'a> {
     Object(Vec<(&'a str, Value<'a>)>),
 }
 
-// Adds an item behind the others, of which texts are kept by themselves until another value comes.
+// Adds a text behind the other items, of which texts are kept by themselves until another value comes.
 fn gather<'a>(
     texts: &mut Vec<&'a str>,
     values: &mut Vec<Value<'a>>,
-    item: Value<'a>,
+    text: &'a str,
 ) -> Result<(), AllocError>
     ensures ok { OnOk result (gathered texts.new.items values.new.items
-        ≡ gathered texts.old.items values.old.items ++ value_view item.entry ∷ []) }
+        ≡ gathered texts.old.items values.old.items ++ string text.now ∷ []) }
 {
     if values.is_empty() {
-        if let Value::Text(text) = item {
-            return add(texts, text);
-        }
+        add(texts, text)
+    } else {
+        add(values, Value::Text(text))
     }
-    add(values, item)
 }
 
 fn add<T: Drop>(items: &mut Vec<T>, item: T) -> Result<(), AllocError>
@@ -104,6 +103,23 @@ pub(crate) fn read_value<'a>(
     ensures memory { result ≡ Err Memory → IsTrue (opens reader.old) }
 {
     let token = reader.next().ok_or(ReadError::NotJson)?;
+    let value = value_from(alloc, token, reader, depth)?;
+    Ok(value)
+}
+
+// The value that a token begins.
+#[cycle(read)]
+fn value_from<'a>(
+    alloc: Global,
+    token: Token<'a>,
+    reader: &mut Reader<'a>,
+    depth: usize,
+) -> Result<Value<'a>, ReadError>
+    ensures ok { IfOk result (λ v. value depth (token_of token.entry ∷ reader.old) ≡ Some (value_view v, reader.new)) }
+    ensures shorter { OnOk result (length reader.new ≤ length reader.old) }
+    ensures invalid { result ≡ Err NotJson → value depth (token_of token.entry ∷ reader.old) ≡ None }
+    ensures memory { result ≡ Err Memory → IsTrue (opens (token_of token.entry ∷ reader.old)) }
+{
     match token {
         Token::String(text) => Ok(Value::Text(text)),
         Token::Number(text) => Ok(Value::Number(text)),
@@ -141,8 +157,13 @@ fn read_items<'a>(
     let mut texts = Vec::new(alloc);
     let mut values = Vec::new(alloc);
     while !reader.take_end_array() {
-        let item = read_value(alloc, reader, depth)?;
-        gather(&mut texts, &mut values, item)?;
+        let token = reader.next().ok_or(ReadError::NotJson)?;
+        if let Token::String(text) = token {
+            gather(&mut texts, &mut values, text)?;
+        } else {
+            let item = value_from(alloc, token, reader, depth)?;
+            add(&mut values, item)?;
+        }
     }
     let array = array_of(alloc, texts, values)?;
     Ok(array)

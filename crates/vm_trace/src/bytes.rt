@@ -116,7 +116,7 @@ const DIGIT_VALUES: [u8; 256] = [
 ];
 
 // The value of a hexadecimal digit, and at least 16 for another byte. A table takes the same time for every digit.
-fn hex_value(digit: u8) -> u8
+pub(crate) fn hex_value(digit: u8) -> u8
     ensures { result ≡ digit_value digit }
 {
     DIGIT_VALUES[digit as usize]

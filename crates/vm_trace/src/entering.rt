@@ -1,13 +1,14 @@
 // How steps come into the entries of a trace.
-ghost use Rattle.std.specs.Prelude.{◌≡◌, ◌≤◌, ◌++◌, length, Err, IfOk, OnErr, OnOk};
+ghost use Rattle.std.specs.Prelude.{◌≡◌, ◌≤◌, ◌++◌, length, true, Err, IfOk, OnErr, OnOk};
 ghost use Rattle.vm_trace.specs.declared.error.PushError.TheVariants.{Fault};
 ghost use Rattle.vm_trace.specs.declared.error.TraceError.{TraceError};
 ghost use Rattle.vm_trace.specs.Entries.{bytes_of, Keeps};
 ghost use Rattle.vm_trace.specs.Limits.{IsStep, IsWithin};
 ghost use Rattle.vm_trace.specs.Entering.{IsEntryOf};
 ghost use Rattle.vm_trace.specs.Sized.{step_in};
+ghost use Rattle.vm_trace.specs.Words.{hex_pairs, is_hex};
 
-use crate::bytes::Bytes;
+use crate::bytes::{Bytes, hex_value};
 use crate::entry::Entry;
 use crate::error::{PushError, TraceError};
 use crate::parse::parse_step_within;
@@ -25,6 +26,24 @@ pub(crate) fn keep(store: &mut Vec<u8>, bytes: Bytes) -> Result<u32, AllocError>
         return Err(AllocError);
     };
     store.extend_from_slice(bytes.as_slice())?;
+    Ok(start)
+}
+
+// Puts the bytes that hexadecimal digits spell behind the others and gives their place, which has 32 bits.
+pub(crate) fn keep_hex(store: &mut Vec<u8>, digits: &[u8]) -> Result<u32, AllocError>
+    requires { is_hex digits.now ≡ true }
+    ensures place { IfOk result (λ start. start ≡ length store.old.items) }
+    ensures ok { OnOk result (store.new.items ≡ store.old.items ++ hex_pairs digits.now) }
+    ensures err { OnErr result (store.new.items ≡ store.old.items) }
+{
+    let Ok(start) = u32::try_from(store.len()) else {
+        return Err(AllocError);
+    };
+    let count = digits.len() / 2;
+    store.reserve(count)?;
+    for i in 0..count {
+        store.push_reserved(16 * hex_value(digits[2 * i]) + hex_value(digits[2 * i + 1]));
+    }
     Ok(start)
 }
 
@@ -72,6 +91,20 @@ fn step_in(text: &str, pages: u32, size: u32) -> Result<Step, TraceError>
     Ok(step)
 }
 
+// The entry of a step that is not spelled plainly, or the fault of its text.
+#[cold]
+fn other_entry(store: &mut Vec<u8>, text: &str, pages: u32, size: u32) -> Result<Entry, PushError>
+    requires some { 1 ≤ pages }
+    requires few { pages ≤ 262144 }
+    ensures entry { IfOk result (IsEntryOf pages size text.now store.old.items store.new.items) }
+    ensures fault { (fault : TraceError) → result ≡ Err (Fault fault) → step_in pages size text.now ≡ Err fault }
+    ensures err { OnErr result (store.new.items ≡ store.old.items) }
+{
+    let step = step_in(text, pages, size)?;
+    let entry = entry_of(store, step.action())?;
+    Ok(entry)
+}
+
 // The entry of the step that a text is, whose bytes it puts behind the others.
 pub(crate) fn entry_of_text(
     store: &mut Vec<u8>,
@@ -88,7 +121,5 @@ pub(crate) fn entry_of_text(
     if let Some(entry) = plain_entry(store, text.as_bytes(), pages.min(size))? {
         return Ok(entry);
     }
-    let step = step_in(text, pages, size)?;
-    let entry = entry_of(store, step.action())?;
-    Ok(entry)
+    other_entry(store, text, pages, size)
 }

@@ -4,8 +4,8 @@ ghost use Rattle.vm_trace.specs.Limits.{IsAccess};
 ghost use Rattle.vm_trace.specs.Spelling.{IsNumeral};
 ghost use Rattle.vm_trace.specs.Entering.{StartsWithDigits, IsField, IsPlace, IsEntered};
 
-use crate::bytes::{Bytes, is_hex};
-use crate::entering::keep;
+use crate::bytes::is_hex;
+use crate::entering::keep_hex;
 use crate::entry::Entry;
 use crate::parse::{MAX_ACCESS, PAGE_BYTES};
 use std::alloc::AllocError;
@@ -128,7 +128,7 @@ fn write(store: &mut Vec<u8>, text: &[u8], pages: u32) -> Result<Option<Entry>, 
     if !is_access(place.offset, len) || !is_hex(place.rest) {
         return Ok(None);
     }
-    let start = keep(store, Bytes::from_hex(place.rest))?;
+    let start = keep_hex(store, place.rest)?;
     Ok(Some(Entry::Write {
         page: place.page,
         start,

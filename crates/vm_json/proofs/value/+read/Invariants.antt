@@ -5,13 +5,16 @@ use Rattle.vm_json.proofs.TreeLemmas.{items_before, members_before}
 use Rattle.vm_json.proofs.value.+read.Given as goal
 
 abbrev pub decreases-read_value : goal.decreases-read_value
-decreases-read_value l = 2 * l.depth
+decreases-read_value l = 3 * l.depth + 1
+
+abbrev pub decreases-value_from : goal.decreases-value_from
+decreases-value_from l = 3 * l.depth
 
 abbrev pub decreases-read_items : goal.decreases-read_items
-decreases-read_items l = 2 * l.depth + 1
+decreases-read_items l = 3 * l.depth + 1
 
 abbrev pub decreases-read_members : goal.decreases-read_members
-decreases-read_members l = 2 * l.depth + 1
+decreases-read_members l = 3 * l.depth + 2
 
 -- what is gathered, and the items to come, are all items; the bound on the turns is still enough
 abbrev pub invariant-read_items-loop-reader : goal.invariant-read_items-loop-reader
