@@ -16,7 +16,7 @@ pub struct Machine {
     total: u32,
     // How many were made, with the numbers below it.
     made: u32,
-    // Memory of the others. `None` says that there are no others.
+    // Memory of the others. It is `None` once all were made and one more was wanted.
     unmade: Option<Memory>,
     // Those that were made and came back. It has room for all.
     free: Vec<Frame>,
