@@ -1,5 +1,5 @@
 // The bytes of a step, and how hexadecimal digits spell them.
-ghost use Rattle.std.specs.Prelude.{◌≡◌, ◌↔◌, ◌*◌, ◌≤◌, [], length, nat_lt, true, IsTrue};
+ghost use Rattle.std.specs.Prelude.{◌≡◌, ◌↔◌, ◌+◌, ◌*◌, ◌<◌, ◌≤◌, [], length, get_or, nat_lt, true, IsTrue};
 ghost use Rattle.std.specs.List.{list_all};
 ghost use Rattle.std.specs.Char.{digit_value};
 ghost use Rattle.vm_trace.specs.Words.{is_hex, hex_pairs};
@@ -78,13 +78,22 @@ impl Bytes {
         let len = digits.len() / 2;
         let mut buffer = [0; MAX_BYTES];
         for i in 0..len {
-            buffer[i] = 16 * hex_value(digits[2 * i]) + hex_value(digits[2 * i + 1]);
+            buffer[i] = byte_of(digits, i);
         }
         Bytes {
             len: len as u8,
             buffer,
         }
     }
+}
+
+// The byte that the two digits at a place spell, counted in pairs.
+pub(crate) fn byte_of(digits: &[u8], place: usize) -> u8
+    requires digits { is_hex digits.now ≡ true }
+    requires inside { 2 * place + 1 < length digits.now }
+    ensures { result ≡ 16 * digit_value (get_or digits.now (2 * place) 0) + digit_value (get_or digits.now (2 * place + 1) 0) }
+{
+    16 * hex_value(digits[2 * place]) + hex_value(digits[2 * place + 1])
 }
 
 // Whether a word is an even number of hexadecimal digits.
@@ -116,7 +125,7 @@ const DIGIT_VALUES: [u8; 256] = [
 ];
 
 // The value of a hexadecimal digit, and at least 16 for another byte. A table takes the same time for every digit.
-pub(crate) fn hex_value(digit: u8) -> u8
+fn hex_value(digit: u8) -> u8
     ensures { result ≡ digit_value digit }
 {
     DIGIT_VALUES[digit as usize]

@@ -8,7 +8,7 @@ ghost use Rattle.vm_trace.specs.Entering.{IsEntryOf};
 ghost use Rattle.vm_trace.specs.Sized.{step_in};
 ghost use Rattle.vm_trace.specs.Words.{hex_pairs, is_hex};
 
-use crate::bytes::{Bytes, hex_value};
+use crate::bytes::{Bytes, byte_of};
 use crate::entry::Entry;
 use crate::error::{PushError, TraceError};
 use crate::parse::parse_step_within;
@@ -42,7 +42,7 @@ pub(crate) fn keep_hex(store: &mut Vec<u8>, digits: &[u8]) -> Result<u32, AllocE
     let count = digits.len() / 2;
     store.reserve(count)?;
     for i in 0..count {
-        store.push_reserved(16 * hex_value(digits[2 * i]) + hex_value(digits[2 * i + 1]));
+        store.push_reserved(byte_of(digits, i));
     }
     Ok(start)
 }

@@ -11,7 +11,7 @@ loop-i-preserved c =
     record {
       spelled =
           c.push_reserved.ensures.items
-          ∙ (λ i. c.loop-i.invariant.spelled i ++ (16 * c.hex_value.ensures i + c.hex_value-in-loop-i.ensures i) ∷ [])
+          ∙ (λ i. c.loop-i.invariant.spelled i ++ c.byte_of.ensures i ∷ [])
           ∙ append_assoc old _ _ ∙ ap (λ l. old ++ l) (sym more);
       room = omega arith;
       len = omega arith;

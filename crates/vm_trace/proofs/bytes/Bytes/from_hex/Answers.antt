@@ -13,7 +13,7 @@ loop-i-preserved c =
       whole = length-set c.loop-i.buffer c.loop-i.i _ ∙ c.loop-i.invariant.whole;
       spelled =
           take_more_set c.loop-i.buffer c.loop-i.i _ fits
-          ∙ (λ i. c.loop-i.invariant.spelled i ++ (16 * c.hex_value.ensures i + c.hex_value-in-loop-i.ensures i) ∷ [])
+          ∙ (λ i. c.loop-i.invariant.spelled i ++ c.byte_of.ensures i ∷ [])
           ∙ sym more;
       zeros = zeros_more c.loop-i.buffer 64 c.loop-i.i _ c.loop-i.invariant.zeros;
     }
