@@ -5,3 +5,4 @@ pub mod CourseLemmas
 pub mod HeadlineLemmas
 pub mod MigrationLemmas
 pub mod SteppingLemmas
+pub mod ReadLineLemmas

@@ -16,6 +16,7 @@ mod law;
 mod lines;
 mod moves;
 mod output;
+mod read_line;
 mod report;
 mod run_error;
 mod simulation;

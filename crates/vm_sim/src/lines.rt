@@ -1,8 +1,9 @@
 // The lines of a report.
-ghost use Rattle.std.specs.Prelude.{◌≡◌, ◌++◌, ◌<◌, OnOk, string_bytes};
+ghost use Rattle.std.specs.Prelude.{◌≡◌, ◌++◌, OnOk, string_bytes};
 ghost use Rattle.std.specs.List.{flat_map};
-ghost use Rattle.vm_sim.specs.Lines.{block_line, command_line, count_line, fault_lines, guest_line, hex, hex_byte, hex_digit, memory_line, memory_lines, move_line, number_line, outcome_lines, read_line, refusal_words, stall_line, state_line, state_word, statistics_lines};
+ghost use Rattle.vm_sim.specs.Lines.{block_line, command_line, count_line, fault_lines, guest_line, memory_line, memory_lines, move_line, number_line, outcome_lines, read_line, refusal_words, stall_line, state_line, state_word, statistics_lines};
 
+use crate::read_line::push_read;
 use std::alloc::AllocError;
 use vm_balloon::Stats;
 use vm_guest::{GuestView, PageRead};
@@ -156,49 +157,6 @@ pub(crate) fn push_state(text: &mut String, state: State, free: u32) -> Result<(
 }
 
 // ---- reads
-
-// A digit from 0 to 15, in lower case.
-fn hex_digit(digit: u8) -> char
-    requires { digit < 16 }
-    ensures value { result ≡ hex_digit digit }
-    ensures ascii { result < 128 }
-{
-    char::from(if digit < 10 {
-        b'0' + digit
-    } else {
-        b'a' + (digit - 10)
-    })
-}
-
-// A byte as two digits.
-fn push_byte(text: &mut String, byte: u8) -> Result<(), AllocError>
-    ensures { OnOk result (string_bytes text.new ≡ string_bytes text.old ++ hex_byte byte) }
-{
-    text.push(hex_digit(byte / 16))?;
-    text.push(hex_digit(byte % 16))
-}
-
-// Bytes as digits.
-fn push_hex(text: &mut String, bytes: &[u8]) -> Result<(), AllocError>
-    ensures { OnOk result (string_bytes text.new ≡ string_bytes text.old ++ hex bytes.now) }
-{
-    for byte in bytes {
-        push_byte(text, *byte)?;
-    }
-    Ok(())
-}
-
-// A read: the guest, the page, the offset and the bytes.
-#[tactic(auto, unfolding(crate::specs::Lines::read_line))]
-fn push_read(text: &mut String, name: &str, read: &PageRead) -> Result<(), AllocError>
-    ensures { OnOk result (string_bytes text.new ≡ string_bytes text.old ++ read_line name.now read.now) }
-{
-    let page = read.page;
-    let offset = read.offset;
-    write!(text, "{name} r {page} {offset} ")?;
-    push_hex(text, read.bytes.as_slice())?;
-    text.push_str("\n")
-}
 
 // All reads of a guest.
 pub(crate) fn push_reads(
