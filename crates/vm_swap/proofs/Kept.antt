@@ -1,11 +1,11 @@
 -- What the invariant of a swap area says of a page whose slot the index finds, or doesn't.
-use Rattle.std.proofs.Common.{min, ◌+◌, ◌≤◌, ◌^◌, ◌++◌, [], ◌∷◌, set, ◌==◌, cond, vec_capacity, ◌≡◌, ℕ, ◌<◌, ◌-◌, List, length, get_or, Option, Some, None, slice_get, refl, sym, ap, ◌∙◌, inl, inr, arith}
+use Rattle.std.proofs.Common.{true, false, min, ◌+◌, ◌≤◌, ◌^◌, ◌++◌, [], ◌∷◌, set, ◌==◌, cond, vec_capacity, ◌≡◌, ℕ, ◌<◌, ◌-◌, List, length, get_or, Option, Some, None, slice_get, refl, sym, ap, ◌∙◌, inl, inr, arith}
 use Rattle.std.proofs.lemmas.Bool.{cases_lt}
 use Rattle.std.proofs.lemmas.Option.{none-some, slice_get_within, slice_get_read, slice_get-map}
-use Rattle.std.proofs.lemmas.List.{length-map, length-set, length-append, map-set, map-append, get_or_past}
+use Rattle.std.proofs.lemmas.List.{length-map, length-set, length-append, map-set, map-append, get_or_past, get_or_read}
 use Rattle.std.specs.Vec.{with_item}
 use Rattle.std.specs.List.{swap_remove}
-use Rattle.std.specs.Option.{option_map, option_and_then}
+use Rattle.std.specs.Option.{option_map, option_and_then, is_some}
 use Rattle.std.specs.Ordering.{nat_cmp}
 use Rattle.std.specs.FinMap.{get, insert, remove, len, from_entries, len-empty}
 use Rattle.vm_swap.specs.declared.area.Slot.{Slot}
@@ -13,7 +13,7 @@ use Rattle.vm_swap.specs.declared.area.SwapArea.TheInside.{Inside}
 use Rattle.vm_swap.specs.Area.{Area}
 use Rattle.vm_swap.specs.Slots.{IsKept, entries_of, pages_of}
 use Rattle.vm_swap.proofs.Bounded.{KeysBelow, KeysBelow-insert, len-KeysBelow}
-use Rattle.vm_swap.proofs.Slots.{get-look_up, entry_at, unindexed, Indexes-push, from_entries-push, len-put, pages_of-set, from_entries-set, len-write, map-swap_remove, Forgets, Indexes-forgets, from_entries-forgets, len-forget, get_or-set}
+use Rattle.vm_swap.proofs.Slots.{get-look_up, entry_at, unindexed, Indexes-push, from_entries-push, len-put, pages_of-set, from_entries-set, len-write, map-swap_remove, Forgets, Indexes-forgets, from_entries-forgets, len-forget, get_or-set, HandsOver, Indexes-hands_over, from_entries-hands_over, len-hands_over}
 
 -- the area that the fields stand for
 abbrev pub area_of : Inside → Area
@@ -200,3 +200,64 @@ pub forgets_sets : (index : List (Option ℕ)) (page moved slot : ℕ) → page 
 forgets_sets index page moved slot page_in moved_in = λ q.
     get_or-set (set index moved (Some slot)) page None None q (rw (length-set index moved (Some slot)) page_in)
     ∙ ap (cond (q == page) None) (get_or-set index moved (Some slot) None q moved_in)
+
+-- ---- the slot of a page goes to another page
+
+-- the index finds a slot exactly for the pages of the map
+pub is_there : (a : Inside) (m : Area) (page : ℕ) → IsKept a → area_of a ≡ m → is_some (get m.pages page) ≡ is_some (get_or a.index.items page None)
+is_there a m page kept is =
+    elim (get_or a.index.items page None) as (λ o. get_or a.index.items page None ≡ o → is_some (get m.pages page) ≡ is_some o) [
+      | None ↦ λ none. ap is_some (absent_at a m page kept is none)
+      | Some slot ↦ λ some. let found = found_at a m page slot kept is some in ap is_some found.has
+    ] refl
+
+pub slot_there : (a : Inside) (m : Area) (page : ℕ) → IsKept a → area_of a ≡ m → is_some (get m.pages page) ≡ true → (slot : ℕ) × (get_or a.index.items page None ≡ Some slot)
+slot_there a m page kept is there =
+    elim (get_or a.index.items page None) as (λ o. get_or a.index.items page None ≡ o → (slot : ℕ) × (o ≡ Some slot)) [
+      | None ↦ λ none. let no : false ≡ true = sym (is_there a m page kept is ∙ ap is_some none) ∙ there in absurd (cc)
+      | Some slot ↦ λ some. (slot, refl)
+    ] refl
+
+-- what a read of a page's element of the index gives, where the page is in the map
+pub taken_at : (a : Inside) (m : Area) (page : ℕ) (element taken answer : Option ℕ) → IsKept a → area_of a ≡ m → is_some (get m.pages page) ≡ true
+    → element ≡ get_or a.index.items page element → taken ≡ element → taken ≡ answer → get_or a.index.items page None ≡ answer
+taken_at a m page element taken answer kept is there read same was =
+    let noted = slot_there a m page kept is there in
+    sym (get_or_read a.index.items page element (inside_index a.index.items page noted.0 noted.1) read None) ∙ sym same ∙ was
+
+-- the index after its two writes
+pub hands_over_sets : (index new : List (Option ℕ)) (page other slot : ℕ) (left : Option ℕ) → page < length index → left ≡ None
+    → ((q : ℕ) → get_or new q None ≡ cond (q == other) (Some slot) (get_or (set index page left) q None)) → HandsOver index new page other slot
+hands_over_sets index new page other slot left within none noted = λ q.
+    noted q ∙ ap (cond (q == other) (Some slot)) (get_or-set index page left None q within ∙ ap (λ o. cond (q == page) o (get_or index q None)) none)
+
+pub handed_pages : (a : Inside) (slots : List Slot) (index : List (Option ℕ)) (m : Area) (page other slot : ℕ) (v : List ℕ) → IsKept a → area_of a ≡ m → get_or a.index.items page None ≡ Some slot → get m.pages other ≡ None
+    → slots ≡ set a.slots.items slot (record { page = other; bytes = v }) → HandsOver a.index.items index page other slot → from_entries {R = nat_cmp} (entries_of slots) ≡ insert (remove m.pages page) other v
+handed_pages a slots index m page other slot v kept is at none written noted =
+    let es = entries_of a.slots.items in
+    ap (λ l. from_entries (entries_of l)) written ∙ ap from_entries (entries_of-set a.slots.items slot other v)
+    ∙ from_entries-hands_over a.index.items index es page other slot v kept.indexes at (unindexed a.index.items es other kept.indexes (absent_inside a m other is none)) noted
+    ∙ ap (λ (x : Area). insert (remove x.pages page) other v) is
+
+pub kept_handed : (a b : Inside) (m : Area) (page other slot : ℕ) (v : List ℕ) → IsKept a → area_of a ≡ m → get_or a.index.items page None ≡ Some slot → get m.pages other ≡ None
+    → b.slots.items ≡ set a.slots.items slot (record { page = other; bytes = v }) → HandsOver a.index.items b.index.items page other slot
+    → b.capacity ≡ a.capacity → vec_capacity b.slots ≡ vec_capacity a.slots → length b.index.items ≤ 262144 → 262144 ≤ vec_capacity b.index → IsKept b
+kept_handed a b m page other slot v kept is at none written noted same room index_within index_room =
+    let found = found_at a m page slot kept is at in
+    let es = entries_of a.slots.items in
+    let longer : length b.slots.items ≡ length a.slots.items = ap length written ∙ length-set a.slots.items slot _ in
+    let is_len : len m.pages ≡ length a.slots.items = ap (λ (x : Area). len x.pages) (sym is) ∙ kept.counted in
+    record {
+      indexes = rw (written, entries_of-set a.slots.items slot other v)
+          (Indexes-hands_over a.index.items b.index.items es page other slot v kept.indexes at (unindexed a.index.items es other kept.indexes (absent_inside a m other is none)) noted);
+      counted =
+          let handed = ap len (handed_pages a b.slots.items b.index.items m page other slot v kept is at none written noted)
+          ∙ len-hands_over m.pages page other v found.bytes found.has none (let w = found.within in omega (arith, is_len)) in
+          omega (arith, handed, is_len, longer);
+      within = let was = kept.within in omega (arith, longer);
+      small = let was = kept.small in omega arith;
+      few = let was = kept.few in omega (arith, longer);
+      room = rw (same, room) kept.room;
+      index_within = index_within;
+      index_room = index_room;
+    }

@@ -1,5 +1,5 @@
 -- A map whose entries lie in slots, and an index that finds the slot of a key.
-use Rattle.std.proofs.Common.{◌≡◌, ◌≢◌, ℕ, zero, suc, ◌+◌, ◌-◌, ◌<◌, ◌≤◌, cond, ◌==◌, List, [], ◌∷◌, ◌++◌, map, length, get_or, set, take, Option, Some, None, slice_get, refl, sym, ap, subst, ◌∙◌, ◌⊎◌, inl, inr, arith}
+use Rattle.std.proofs.Common.{◌≡◌, ◌≢◌, Bool, true, false, ℕ, zero, suc, ◌+◌, ◌-◌, ◌<◌, ◌≤◌, cond, ◌==◌, List, [], ◌∷◌, ◌++◌, map, length, get_or, set, take, Option, Some, None, slice_get, refl, sym, ap, subst, ◌∙◌, ◌⊎◌, inl, inr, arith}
 use Rattle.std.proofs.lemmas.Bool.{eq-eqb, ne_eqb, cond-true, cond-false, cases_eq, cases_lt}
 use Rattle.std.proofs.lemmas.Option.{none-some, same_Some, slice_get-map, slice_get_within, slice_get-get_or}
 use Rattle.std.proofs.lemmas.List.{take-map, map-set, get_or-set_same, get_or-set_other, length-map, map-append}
@@ -310,3 +310,82 @@ from_entries-forgets index new es page moved i d x at last noted =
 
 pub len-forget : (m : FinMap nat_cmp (List ℕ)) (k : ℕ) (w : List ℕ) → get m k ≡ Some w → len (remove m k) ≡ len m - 1
 len-forget m k w is = len-remove nat_cmp_total m k ∙ ap (λ o. cond (is_some o) (len m - 1) (len m)) is
+
+-- ---- the slot of a page goes to another page
+
+-- the index finds the other page in the slot, and no longer the page that had it
+abbrev pub HandsOver : List (Option ℕ) → List (Option ℕ) → ℕ → ℕ → ℕ → Type 0
+HandsOver index new page other i = (q : ℕ) → get_or new q None ≡ cond (q == other) (Some i) (cond (q == page) None (get_or index q None))
+
+Indexes-set : (index new : List (Option ℕ)) (pages : List ℕ) (page other i : ℕ) → Indexes index pages → get_or index page None ≡ Some i → get_or index other None ≡ None → HandsOver index new page other i → Indexes new (set pages i other)
+Indexes-set index new pages page other i x at free noted =
+    let here = x.listed page i at in
+    record {
+      listed = λ p j h. elim (cases_eq p other) [
+        | inl same ↦
+            let j_is : i ≡ j = same_Some _ _ (sym (noted p ∙ cond-true _ _ _ (eq-eqb p other same)) ∙ h) in
+            rw (← j_is, same) (slice_get-set_same pages i other (slice_get_within pages i page here))
+        | inr apart ↦
+            let h2 = sym (noted p ∙ cond-false _ _ _ (ne_eqb p other apart)) ∙ h in
+            elim (cases_eq p page) [
+              | inl gone ↦ absurd (none-some j (sym (cond-true _ _ _ (eq-eqb p page gone)) ∙ h2))
+              | inr old ↦
+                  let found : slice_get pages j ≡ Some p = x.listed p j (sym (cond-false _ _ _ (ne_eqb p page old)) ∙ h2) in
+                  slice_get-set_other pages i j other (λ e. old (same_Some _ _ (sym found ∙ ap (slice_get pages) e ∙ here))) ∙ found
+            ]
+      ];
+      indexed = λ p j h. elim (cases_eq j i) [
+        | inl same ↦
+            let p_is : other ≡ p = same_Some _ _ (sym (slice_get-set_same pages i other (slice_get_within pages i page here)) ∙ ap (slice_get (set pages i other)) (sym same) ∙ h) in
+            noted p ∙ cond-true _ _ _ (eq-eqb p other (sym p_is)) ∙ ap Some (sym same)
+        | inr apart ↦
+            let was : get_or index p None ≡ Some j = x.indexed p j (sym (slice_get-set_other pages i j other apart) ∙ h) in
+            let not_other : p ≢ other = λ e. none-some j (sym free ∙ ap (λ q. get_or index q None) (sym e) ∙ was) in
+            let not_page : p ≢ page = λ e. apart (same_Some _ _ (sym was ∙ ap (λ q. get_or index q None) e ∙ at)) in
+            noted p ∙ cond-false _ _ _ (ne_eqb p other not_other) ∙ cond-false _ _ _ (ne_eqb p page not_page) ∙ was
+      ];
+    }
+
+pub Indexes-hands_over : (index new : List (Option ℕ)) (es : List (ℕ × List ℕ)) (page other i : ℕ) (v : List ℕ) → Indexes index (pages_of es) → get_or index page None ≡ Some i → get_or index other None ≡ None → HandsOver index new page other i → Indexes new (pages_of (set es i (other, v)))
+Indexes-hands_over index new es page other i v x at free noted =
+    subst (Indexes new) (sym (map-set (λ (e : ℕ × List ℕ). e.0) es i (other, v))) (Indexes-set index new (pages_of es) page other i x at free noted)
+
+pub from_entries-hands_over : (index new : List (Option ℕ)) (es : List (ℕ × List ℕ)) (page other i : ℕ) (v : List ℕ) → Indexes index (pages_of es) → get_or index page None ≡ Some i → get_or index other None ≡ None → HandsOver index new page other i → from_entries {R = nat_cmp} (set es i (other, v)) ≡ insert (remove (from_entries es) page) other v
+from_entries-hands_over index new es page other i v x at free noted =
+    let here = x.listed page i at in
+    let within : i < length es = let w = slice_get_within (pages_of es) i page here in omega (arith, w, length-map es (λ (e : ℕ × List ℕ). e.0)) in
+    let read : List (ℕ × List ℕ) → Option ℕ → Option (List ℕ) = λ l o. option_and_then (λ j. option_map (λ e. e.1) (slice_get l j)) o in
+    same_map nat_cmp_total nat_cmp-IsAntisymmetric _ _ (λ q.
+    get-look_up new _ q (Indexes-hands_over index new es page other i v x at free noted)
+    ∙ ap (read (set es i (other, v))) (noted q)
+    ∙ elim (cases_eq q other) [
+      | inl same ↦
+          ap (read (set es i (other, v))) (cond-true _ _ _ (eq-eqb q other same))
+          ∙ ap (option_map (λ e. e.1)) (slice_get-set_same es i (other, v) within)
+          ∙ sym (cond-true _ _ _ (eq-eqb q other same))
+      | inr apart ↦
+          ap (read (set es i (other, v))) (cond-false _ _ _ (ne_eqb q other apart))
+          ∙ elim (cases_eq q page) [
+            | inl gone ↦
+                ap (read (set es i (other, v))) (cond-true _ _ _ (eq-eqb q page gone)) ∙ sym (cond-true _ _ _ (eq-eqb q page gone))
+            | inr old ↦
+                ap (read (set es i (other, v))) (cond-false _ _ _ (ne_eqb q page old))
+                ∙ elim (get_or index q None) as (λ o. get_or index q None ≡ o → read (set es i (other, v)) o ≡ read es o) [
+                  | None ↦ λ e. refl
+                  | Some j ↦ λ e. ap (option_map (λ e. e.1)) (slice_get-set_other es i j (other, v) (λ same. old (same_Some _ _ (sym (x.listed q j e) ∙ ap (slice_get (pages_of es)) same ∙ here))))
+                ] refl
+                ∙ sym (cond-false _ _ _ (ne_eqb q page old) ∙ get-look_up index es q x)
+          ]
+          ∙ sym (cond-false _ _ _ (ne_eqb q other apart) ∙ nat_get-remove (from_entries es) page q)
+    ]
+    ∙ sym (nat_get-insert (remove (from_entries es) page) other v q))
+
+pub len-hands_over : (m : FinMap nat_cmp (List ℕ)) (page other : ℕ) (v w : List ℕ) → get m page ≡ Some w → get m other ≡ None → 0 < len m → len (insert (remove m page) other v) ≡ len m
+len-hands_over m page other v w there none some =
+    let gone : get (remove m page) other ≡ None = nat_get-remove m page other ∙ ap (cond (other == page) None) none ∙ same (other == page) in
+    let more = len-put (remove m page) other (len m - 1) v gone (len-forget m page w there) in
+    omega (arith, more)
+  where
+    same : (b : Bool) → cond {A = Option (List ℕ)} b None None ≡ None
+    same true = refl
+    same false = refl

@@ -1,10 +1,11 @@
-ghost use Rattle.std.specs.Prelude.{◌≡◌, ℕ, ◌+◌, ◌^◌, ◌<◌, ◌≤◌, ◌==◌, if◌then◌else◌, length, min, Some, None, IfSome, IfNone, IfOk, OnOk, OnErr, get_or, vec_len, vec_capacity};
+ghost use Rattle.std.specs.Prelude.{◌≡◌, ℕ, true, ◌+◌, ◌^◌, ◌<◌, ◌≤◌, ◌==◌, if◌then◌else◌, length, min, Some, None, IfSome, IfNone, IfOk, OnOk, OnErr, get_or, vec_len, vec_capacity};
 ghost use Rattle.std.specs.Bool.{OnTrue, OnFalse};
 ghost use Rattle.std.specs.FinMap as map;
 ghost use Rattle.vm_swap.specs.Area.{zero_bytes};
 
 use std::alloc::{AllocError, Global};
 use std::marker::Model;
+use std::mem::swap;
 
 /// The bytes of a page of guest memory.
 pub const PAGE_BYTES: usize = 4096;
@@ -26,7 +27,7 @@ struct Slot {
 ///
 /// All room is reserved when the area is made or grows, at most for the [`PAGE_LIMIT`] pages that a guest can
 /// have, so no other call takes memory. A slot is written first when a page needs it: a system that gives out
-/// memory on first use gives none for slots that were never needed. `put`, `get_into`, `zero_page` and
+/// memory on first use gives none for slots that were never needed. `put`, `get_into`, `exchange`, `zero_page` and
 /// `drop_page` look a page up by one read, and copy a page at most once more.
 #[derive(Drop)]
 pub struct SwapArea {
@@ -108,10 +109,36 @@ impl SwapArea {
         ensures { self.new ≡ record self.old { pages = map.insert self.old.pages page bytes.now } }
     {
         let slot = self.slots.len() as u32;
-        let mut copy = [0; PAGE_BYTES];
-        copy.copy_from_slice(bytes);
-        self.slots.push_reserved(Slot { page, bytes: copy });
+        match <[u8; PAGE_BYTES]>::try_from(bytes) {
+            Ok(bytes) => self.slots.push_reserved(Slot { page, bytes }),
+            Err(_) => unreachable!(),
+        }
         note_slot(&mut self.index, page, slot);
+    }
+
+    /// Swaps a page in and another one out, which takes its slot: the bytes of the page come into the buffer, and those that were
+    /// in it are kept for the other one, which must not be there yet.
+    pub fn exchange(&mut self, page: u32, other: u32, buffer: &mut [u8; PAGE_BYTES])
+        requires there { map.contains_key self.old.pages page ≡ true }
+        requires in_range { other < PAGE_LIMIT }
+        requires absent { map.get self.old.pages other ≡ None }
+        ensures exchanged { self.new ≡ record self.old { pages = map.insert (map.remove self.old.pages page) other buffer.old } }
+        ensures bytes { map.get self.old.pages page ≡ Some buffer.new }
+    {
+        match self.index[page as usize].take() {
+            Some(slot) => {
+                rewrite(&mut self.slots[slot as usize], other, buffer);
+                note_slot(&mut self.index, other, slot);
+            }
+            None => unreachable!(),
+        }
+    }
+
+    /// Whether a page is there.
+    pub fn contains(&self, page: u32) -> bool
+        ensures { result ≡ map.contains_key self.now.pages page }
+    {
+        slot_of(&self.index, page).is_some()
     }
 
     /// Copies the bytes of a page into the buffer, and answers whether the page is there. The area keeps it.
@@ -179,6 +206,15 @@ fn usable(capacity: u32) -> usize
     } else {
         PAGE_LIMIT as usize
     }
+}
+
+// Gives a slot to a page whose bytes are in the buffer, which gets those that were in the slot.
+fn rewrite(slot: &mut Slot, page: u32, buffer: &mut [u8; PAGE_BYTES])
+    ensures slot { slot.new ≡ record { page = page; bytes = buffer.old } }
+    ensures bytes { buffer.new ≡ slot.old.bytes }
+{
+    slot.page = page;
+    swap(&mut slot.bytes, buffer);
 }
 
 // The slot in which the index finds a page.

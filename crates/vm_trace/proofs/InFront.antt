@@ -10,7 +10,7 @@ use Rattle.vm_trace.specs.declared.entry.Entry.{Entry}
 use Rattle.vm_trace.specs.declared.entry.Entry.TheVariants as entry
 use Rattle.vm_trace.specs.declared.step.Step.{Step}
 use Rattle.vm_trace.specs.declared.step.Action.TheVariants.{Read, Write, Free, Idle, Post}
-use Rattle.vm_trace.specs.Entering.{IsPlace, IsEntered, IsEntryOf}
+use Rattle.vm_trace.specs.Entering.{KeepsHex, IsEntered, IsEnteredAt, IsEntryOf}
 use Rattle.vm_trace.specs.Entries.{bytes_at, action_at}
 use Rattle.vm_trace.specs.Limits.{most_pages, IsWithin, IsAccess}
 use Rattle.vm_trace.specs.Sized.{within_pages, step_in}
@@ -37,22 +37,22 @@ pairs word is = let all = length-hex_pairs word in let even = even_from_hex word
 bytes_behind : (old bytes : List ℕ) → bytes_at (old ++ bytes) (length old) (length bytes) ≡ bytes
 bytes_behind old bytes = ap (take (length bytes)) (drop-append_seam old bytes) ∙ take_all (length bytes) bytes (omega arith)
 
--- PAGE OFFSET HEX behind the letter of a write is a write, once its bytes are put behind the others
-pub write_entered : (pages : ℕ) (text rest old new bytes : List ℕ) (page offset start : ℕ) → IsPlace pages text page offset rest → is_hex rest ≡ true → IsAccess offset (length rest / 2)
-    → start ≡ length old → bytes ≡ hex_pairs rest → new ≡ old ++ bytes → IsEntered pages (119 ∷ 32 ∷ text) old new (entry.Write page start offset (length rest / 2))
-write_entered pages text rest old new bytes page offset start p is access at_end spelled longer =
-    let len : length bytes ≡ length rest / 2 = ap length spelled ∙ pairs rest is in
-    let behind : bytes_at new start (length rest / 2) ≡ bytes = (λ i. bytes_at (longer i) (at_end i) (sym len i)) ∙ bytes_behind old bytes in
+-- hexadecimal digits behind a place are a write, once their bytes are put behind the others
+pub write_entered : (rest old new : List ℕ) (page offset start : ℕ) → IsAccess offset (length rest / 2) → KeepsHex rest old new start
+    → IsEnteredAt 119 page offset rest old new (entry.Write page start offset (length rest / 2))
+write_entered rest old new page offset start access k pages text p =
+    let count = pairs rest k.hex in
+    let behind : bytes_at new start (length rest / 2) ≡ hex_pairs rest = (λ i. bytes_at (k.added i) (k.place i) (sym count i)) ∙ bytes_behind old (hex_pairs rest) in
     let whole = p.page_word.2 ∙ ap (λ l. p.page_word.0 ++ 32 ∷ l) p.offset_word.2 in
     record {
-      spelled = subst (λ l. IsSpelled pages (119 ∷ 32 ∷ text) (Write page offset l)) (sym (behind ∙ spelled))
+      spelled = subst (λ l. IsSpelled pages (119 ∷ 32 ∷ text) (Write page offset l)) (sym behind)
           (record {
-            words = (p.page_word.0, p.offset_word.0, rest, p.page_word.1, p.offset_word.1, hex_spelled rest is, ap (λ l. 119 ∷ 32 ∷ l) whole);
+            words = (p.page_word.0, p.offset_word.0, rest, p.page_word.1, p.offset_word.1, hex_spelled rest k.hex, ap (λ l. 119 ∷ 32 ∷ l) whole);
             page = p.inside;
-            bytes = subst (IsAccess offset) (sym (pairs rest is)) access;
+            bytes = subst (IsAccess offset) (sym count) access;
           });
-      within = let all = ap length longer ∙ length-append old bytes in omega (arith, all, at_end, len);
-      added = longer ∙ ap (λ l. old ++ l) (sym behind);
+      within = let all = ap length k.added ∙ length-append old (hex_pairs rest) in let place = k.place in omega (arith, all, place, count);
+      added = k.added ∙ ap (λ l. old ++ l) (sym behind);
     }
 
 kept_pages : (size : ℕ) (step : Step) → IsWithin size step → within_pages size step ≡ Ok step

@@ -10,6 +10,7 @@ use Rattle.std.specs.Char.{is_ascii_digit}
 use Rattle.std.specs.List.{list_all}
 use Rattle.std.specs.Str.Parse.{digits_value}
 use Rattle.vm_trace.specs.declared.error.TraceError.TheVariants.{Number}
+use Rattle.vm_trace.specs.Entering.{IsDecimal}
 use Rattle.vm_trace.specs.Words.{number_of}
 
 decimal : IsNumeralModel (λ ds. list_all is_ascii_digit ds ≡ true) (digits_value 10)
@@ -56,3 +57,10 @@ number_more word i n below value one =
 pub number_tiny : (word : List ℕ) (i : ℕ) → i ≤ length word → i < 9 → list_all is_ascii_digit (take i word) ≡ true → digits_value 10 (take i word) < 10 ^ 8
 number_tiny word i below few digits =
     digits_value_short decimal (take i word) 8 digits (omega (arith, length-take-le i word below))
+
+-- a decimal digit is below ten
+pub IsDecimal-small : (byte n : ℕ) → IsDecimal byte n → n < 10
+IsDecimal-small byte n is =
+    let range = and_parts _ _ is.digit in
+    let digit = digit_value_digit byte (leb-true _ _ range.0, leb-true _ _ range.1) in
+    omega (arith, digit, is.value, leb-true _ _ range.0, leb-true _ _ range.1)

@@ -2,7 +2,7 @@
 ghost use Rattle.std.specs.Prelude.{◌≡◌, ◌↔◌, ◌+◌, ◌*◌, ◌<◌, ◌≤◌, [], length, get_or, nat_lt, true, IsTrue};
 ghost use Rattle.std.specs.List.{list_all};
 ghost use Rattle.std.specs.Char.{digit_value};
-ghost use Rattle.vm_trace.specs.Words.{is_hex, hex_pairs};
+ghost use Rattle.vm_trace.specs.Words.{is_hex, pair_of, hex_pairs};
 
 use std::marker::Model;
 
@@ -94,6 +94,19 @@ pub(crate) fn byte_of(digits: &[u8], place: usize) -> u8
     ensures { result ≡ 16 * digit_value (get_or digits.now (2 * place) 0) + digit_value (get_or digits.now (2 * place + 1) 0) }
 {
     16 * hex_value(digits[2 * place]) + hex_value(digits[2 * place + 1])
+}
+
+// The byte that two hexadecimal digits spell.
+pub(crate) fn pair_of(high: u8, low: u8) -> Option<u8>
+    ensures { result ≡ pair_of high low }
+{
+    let high = hex_value(high);
+    let low = hex_value(low);
+    if high < 16 && low < 16 {
+        Some(16 * high + low)
+    } else {
+        None
+    }
 }
 
 // Whether a word is an even number of hexadecimal digits.

@@ -1,14 +1,14 @@
 // How steps come into the entries of a trace.
-ghost use Rattle.std.specs.Prelude.{◌≡◌, ◌≤◌, ◌++◌, length, true, Err, IfOk, OnErr, OnOk};
+ghost use Rattle.std.specs.Prelude.{◌≡◌, ◌<◌, ◌≤◌, ◌↔◌, ◌^◌, ◌++◌, length, [], ◌∷◌, true, None, Err, IsTrue, IfOk, IfSome, OnErr, OnOk};
 ghost use Rattle.vm_trace.specs.declared.error.PushError.TheVariants.{Fault};
 ghost use Rattle.vm_trace.specs.declared.error.TraceError.{TraceError};
 ghost use Rattle.vm_trace.specs.Entries.{bytes_of, Keeps};
 ghost use Rattle.vm_trace.specs.Limits.{IsStep, IsWithin};
-ghost use Rattle.vm_trace.specs.Entering.{IsEntryOf};
+ghost use Rattle.vm_trace.specs.Entering.{KeepsHex, LeavesHex, IsEntryOf};
 ghost use Rattle.vm_trace.specs.Sized.{step_in};
 ghost use Rattle.vm_trace.specs.Words.{hex_pairs, is_hex};
 
-use crate::bytes::{Bytes, byte_of};
+use crate::bytes::{Bytes, byte_of, is_hex, pair_of};
 use crate::entry::Entry;
 use crate::error::{PushError, TraceError};
 use crate::parse::parse_step_within;
@@ -16,35 +16,78 @@ use crate::plain::plain_entry;
 use crate::step::{Action, Step};
 use std::alloc::AllocError;
 
-// Puts the bytes of a step behind the others and gives their place, which has 32 bits.
+// Whether the place behind the last byte has 32 bits.
+fn has_place(store: &Vec<u8>) -> bool
+    ensures { IsTrue result ↔ (length store.now.items < 2 ^ 32) }
+{
+    store.len() <= u32::MAX as usize
+}
+
+// Puts the bytes of a step behind the others and gives their place.
 pub(crate) fn keep(store: &mut Vec<u8>, bytes: Bytes) -> Result<u32, AllocError>
     ensures place { IfOk result (λ start. start ≡ length store.old.items) }
     ensures ok { OnOk result (store.new.items ≡ store.old.items ++ bytes) }
     ensures err { OnErr result (store.new.items ≡ store.old.items) }
 {
-    let Ok(start) = u32::try_from(store.len()) else {
+    if !has_place(store) {
         return Err(AllocError);
-    };
+    }
+    let start = store.len() as u32;
     store.extend_from_slice(bytes.as_slice())?;
     Ok(start)
 }
 
-// Puts the bytes that hexadecimal digits spell behind the others and gives their place, which has 32 bits.
-pub(crate) fn keep_hex(store: &mut Vec<u8>, digits: &[u8]) -> Result<u32, AllocError>
+// Puts the byte that two hexadecimal digits spell behind the others and gives its place; `None` for other characters.
+fn keep_pair(store: &mut Vec<u8>, high: u8, low: u8) -> Result<Option<u32>, AllocError>
+    ensures kept { IfOk result (λ found. IfSome found (KeepsHex (high ∷ low ∷ []) store.old.items store.new.items)) }
+    ensures none { IfOk result (λ found. found ≡ None → LeavesHex (high ∷ low ∷ []) store.old.items store.new.items) }
+    ensures err { OnErr result (store.new.items ≡ store.old.items) }
+{
+    let Some(byte) = pair_of(high, low) else {
+        return Ok(None);
+    };
+    if !has_place(store) {
+        return Err(AllocError);
+    }
+    let start = store.len() as u32;
+    store.push(byte)?;
+    Ok(Some(start))
+}
+
+// Puts the bytes that hexadecimal digits spell behind the others and gives their place.
+fn keep_pairs(store: &mut Vec<u8>, digits: &[u8]) -> Result<u32, AllocError>
     requires { is_hex digits.now ≡ true }
     ensures place { IfOk result (λ start. start ≡ length store.old.items) }
     ensures ok { OnOk result (store.new.items ≡ store.old.items ++ hex_pairs digits.now) }
     ensures err { OnErr result (store.new.items ≡ store.old.items) }
 {
-    let Ok(start) = u32::try_from(store.len()) else {
+    if !has_place(store) {
         return Err(AllocError);
-    };
+    }
+    let start = store.len() as u32;
     let count = digits.len() / 2;
     store.reserve(count)?;
     for i in 0..count {
         store.push_reserved(byte_of(digits, i));
     }
     Ok(start)
+}
+
+// Puts the bytes that a text spells in hexadecimal digits behind the others and gives their place; `None` for another text. Most
+// writes have one byte, which is put there in one pass.
+pub(crate) fn keep_hex(store: &mut Vec<u8>, text: &[u8]) -> Result<Option<u32>, AllocError>
+    ensures kept { IfOk result (λ found. IfSome found (KeepsHex text.now store.old.items store.new.items)) }
+    ensures none { IfOk result (λ found. found ≡ None → LeavesHex text.now store.old.items store.new.items) }
+    ensures err { OnErr result (store.new.items ≡ store.old.items) }
+{
+    if let [high, low] = *text {
+        return keep_pair(store, high, low);
+    }
+    if !is_hex(text) {
+        return Ok(None);
+    }
+    let start = keep_pairs(store, text)?;
+    Ok(Some(start))
 }
 
 // The entry of an action, whose bytes it puts behind the others.

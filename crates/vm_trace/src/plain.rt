@@ -1,24 +1,20 @@
-// Reads steps that are spelled plainly, in one pass and without a list of their words: reads and writes whose numbers have at most 9 digits.
-ghost use Rattle.std.specs.Prelude.{◌≡◌, ℕ, List, ◌∷◌, None, IfOk, IfSome, OnErr, IsTrue};
+// Reads steps that are spelled plainly, in one pass and without a list of their words: reads and writes whose page has at most 6
+// digits, their offset 4 and their length 2.
+ghost use Rattle.std.specs.Prelude.{◌≡◌, ◌≤◌, ℕ, List, ◌∷◌, None, length, true, IfOk, IfSome, OnErr, IsTrue};
 ghost use Rattle.vm_trace.specs.Limits.{IsAccess};
 ghost use Rattle.vm_trace.specs.Spelling.{IsNumeral};
-ghost use Rattle.vm_trace.specs.Entering.{StartsWithDigits, IsField, IsPlace, IsEntered};
+ghost use Rattle.vm_trace.specs.Entering.{IsDecimal, IsField, IsPlace, IsEntered, IsEnteredAt};
 
-use crate::bytes::is_hex;
 use crate::entering::keep_hex;
 use crate::entry::Entry;
 use crate::parse::{MAX_ACCESS, PAGE_BYTES};
 use std::alloc::AllocError;
 
-// So many digits have a number of 32 bits.
-const MAX_PLAIN_DIGITS: usize = 9;
+// The most digits of a page that is read plainly: so many have all pages of the greatest guest.
+const PAGE_DIGITS: usize = 6;
 
-// Digits in front of a text.
-#[derive(Clone, Copy)]
-struct Digits {
-    count: usize,
-    number: u32,
-}
+// The most digits of an offset that is read plainly.
+const OFFSET_DIGITS: usize = 4;
 
 // A number in front of a text, and what stands behind its space.
 #[derive(Clone, Copy)]
@@ -35,53 +31,69 @@ struct Place<'a> {
     rest: &'a [u8],
 }
 
-// The digits in front of a text.
-fn leading_digits(text: &[u8]) -> Digits
-    ensures { StartsWithDigits text.now result.count result.number }
+// The value of a decimal digit, by one comparison.
+fn decimal(byte: u8) -> Option<u32>
+    ensures { IfSome result (λ n. IsDecimal byte n) }
 {
-    let mut count = 0;
-    let mut number = 0;
-    for byte in text {
-        if count == MAX_PLAIN_DIGITS || !byte.is_ascii_digit() {
-            return Digits { count, number };
-        }
-        number = 10 * number + u32::from(*byte - b'0');
-        count += 1;
-    }
-    Digits { count, number }
+    let value = u32::from(byte).wrapping_sub(u32::from(b'0'));
+    if value < 10 { Some(value) } else { None }
 }
 
-// The number in front of a text, which a space ends.
-fn number_before_space(text: &[u8]) -> Option<Field<'_>>
+// The number in front of a text, which a space among the first `end` bytes ends.
+#[inline(always)]
+fn number_within(text: &[u8], end: usize) -> Option<Field<'_>>
+    requires inside { end ≤ length text.now }
+    requires short { end ≤ 9 }
     ensures { IfSome result (λ f. IsField text.now f.number f.rest.now) }
 {
-    let Digits { count, number } = leading_digits(text);
-    if count == 0 || text.get(count) != Some(&b' ') {
-        return None;
+    let mut number = 0;
+    for place in 0..end {
+        let Some(digit) = decimal(text[place]) else {
+            if place == 0 || text[place] != b' ' {
+                return None;
+            }
+            return Some(Field {
+                number,
+                rest: &text[place + 1..],
+            });
+        };
+        number = 10 * number + digit;
     }
-    Some(Field {
-        number,
-        rest: &text[count + 1..],
-    })
+    None
 }
 
-// The number that a text is.
+// The number of at most so many digits in front of a text, which a space ends. Where the text is long enough, the loop has a
+// known end and is unrolled.
+#[inline(always)]
+fn number_before_space(text: &[u8], digits: usize) -> Option<Field<'_>>
+    requires { digits ≤ 8 }
+    ensures { IfSome result (λ f. IsField text.now f.number f.rest.now) }
+{
+    if digits < text.len() {
+        number_within(text, digits + 1)
+    } else {
+        number_within(text, text.len())
+    }
+}
+
+// The number of one or two digits that a text is.
 fn last(text: &[u8]) -> Option<u32>
     ensures { IfSome result (λ n. IsNumeral text.now n) }
 {
-    let Digits { count, number } = leading_digits(text);
-    if count == 0 || count < text.len() {
-        return None;
+    match *text {
+        [ones] => decimal(ones),
+        [tens, ones] => Some(10 * decimal(tens)? + decimal(ones)?),
+        _ => None,
     }
-    Some(number)
 }
 
 // PAGE OFFSET in front of a text.
+#[inline(always)]
 fn place_in_front(text: &[u8], pages: u32) -> Option<Place<'_>>
     ensures { IfSome result (λ p. IsPlace pages text.now p.page p.offset p.rest.now) }
 {
-    let page = number_before_space(text)?;
-    let offset = number_before_space(page.rest)?;
+    let page = number_before_space(text, PAGE_DIGITS)?;
+    let offset = number_before_space(page.rest, OFFSET_DIGITS)?;
     if page.number >= pages {
         return None;
     }
@@ -96,14 +108,14 @@ fn place_in_front(text: &[u8], pages: u32) -> Option<Place<'_>>
 fn is_access(offset: u32, len: usize) -> bool
     ensures { IsTrue result → IsAccess offset len }
 {
-    1 <= len && len <= MAX_ACCESS as usize && offset <= PAGE_BYTES - len as u32
+    1 <= len && len <= MAX_ACCESS as usize && offset as usize + len <= PAGE_BYTES as usize
 }
 
 // The entry of PAGE OFFSET LEN, behind the letter of a read.
-fn read(text: &[u8], pages: u32) -> Option<Entry>
-    ensures { IfSome result (λ entry. (bytes : List ℕ) → IsEntered pages (114 ∷ 32 ∷ text.now) bytes bytes entry) }
+#[inline(always)]
+fn read(place: Place<'_>) -> Option<Entry>
+    ensures { IfSome result (λ entry. (bytes : List ℕ) → IsEnteredAt 114 place.entry.page place.entry.offset place.entry.rest.now bytes bytes entry) }
 {
-    let place = place_in_front(text, pages)?;
     let len = last(place.rest)?;
     if !is_access(place.offset, len as usize) {
         return None;
@@ -116,19 +128,19 @@ fn read(text: &[u8], pages: u32) -> Option<Entry>
 }
 
 // The entry of PAGE OFFSET HEX, behind the letter of a write, whose bytes are put behind the others.
-fn write(store: &mut Vec<u8>, text: &[u8], pages: u32) -> Result<Option<Entry>, AllocError>
-    ensures entry { IfOk result (λ found. IfSome found (IsEntered pages (119 ∷ 32 ∷ text.now) store.old.items store.new.items)) }
+#[inline(always)]
+fn write(store: &mut Vec<u8>, place: Place<'_>) -> Result<Option<Entry>, AllocError>
+    ensures entry { IfOk result (λ found. IfSome found (IsEnteredAt 119 place.entry.page place.entry.offset place.entry.rest.now store.old.items store.new.items)) }
     ensures none { IfOk result (λ found. found ≡ None → store.new.items ≡ store.old.items) }
     ensures err { OnErr result (store.new.items ≡ store.old.items) }
 {
-    let Some(place) = place_in_front(text, pages) else {
-        return Ok(None);
-    };
     let len = place.rest.len() / 2;
-    if !is_access(place.offset, len) || !is_hex(place.rest) {
+    if !is_access(place.offset, len) {
         return Ok(None);
     }
-    let start = keep_hex(store, place.rest)?;
+    let Some(start) = keep_hex(store, place.rest)? else {
+        return Ok(None);
+    };
     Ok(Some(Entry::Write {
         page: place.page,
         start,
@@ -147,9 +159,15 @@ pub(crate) fn plain_entry(
     ensures none { IfOk result (λ found. found ≡ None → store.new.items ≡ store.old.items) }
     ensures err { OnErr result (store.new.items ≡ store.old.items) }
 {
-    match text {
-        [b'r', b' ', rest @ ..] => Ok(read(rest, pages)),
-        [b'w', b' ', rest @ ..] => write(store, rest, pages),
+    let [kind, b' ', rest @ ..] = text else {
+        return Ok(None);
+    };
+    let Some(place) = place_in_front(rest, pages) else {
+        return Ok(None);
+    };
+    match *kind {
+        b'r' => Ok(read(place)),
+        b'w' => write(store, place),
         _ => Ok(None),
     }
 }

@@ -45,6 +45,30 @@ fn swap_area(rt: HostRuntime) {
     check_changes(&rt, &mut area);
 }
 
+// One page comes in and another goes out, in the only room that there is. The page that stays is found.
+fn check_exchange(rt: &impl Abort, area: &mut SwapArea) {
+    let mut buffer = [3; PAGE_BYTES];
+    area.exchange(7, 2, &mut buffer);
+    check_eq(rt, buffer == [7; PAGE_BYTES], true);
+    check_eq(rt, (area.contains(7), area.contains(2)), (false, true));
+    check_absent(rt, area, 7);
+    check_page(rt, area, 2, 3);
+    check_page(rt, area, 8, 8);
+    check_sizes(rt, area, 2, 2);
+}
+
+#[test]
+fn exchanged_pages(rt: HostRuntime) {
+    let mut area = SwapArea::new(rt.alloc(), 2).expect(&rt, "memory");
+    area.put(7, &[7; PAGE_BYTES]);
+    area.put(8, &[8; PAGE_BYTES]);
+    check_exchange(&rt, &mut area);
+    // The slot is given up, and the last one takes its place.
+    check_eq(&rt, area.drop_page(2), true);
+    check_page(&rt, &area, 8, 8);
+    check_sizes(&rt, &area, 1, 2);
+}
+
 #[test]
 fn greatest_area(rt: HostRuntime) {
     // 256 GiB of pages: more than a machine need have, as long as they are not used.

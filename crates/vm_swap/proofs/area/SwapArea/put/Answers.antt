@@ -18,7 +18,7 @@ invariant_of-self c =
 pub returns : goal.returns
 returns c =
     let pages = put_pages c.self.inside _ c.args.self.now _ c.self.view_is c.requires.absent c.push_reserved.ensures.items in
-    λ i. record { pages = (pages ∙ ap (insert c.args.self.now.pages c.args.page) c.copy_from_slice.ensures.after) i; capacity = (c.self.view_is i).capacity }
+    λ i. record { pages = (pages ∙ ap (insert c.args.self.now.pages c.args.page) c.in-Ok.ensures.1.same) i; capacity = (c.self.view_is i).capacity }
 
 pub push_reserved-requires : goal.push_reserved-requires
 push_reserved-requires c =

@@ -1,7 +1,7 @@
 use Rattle.std.proofs.Common.{◌+◌, ◌*◌, ◌<◌, ◌∷◌, ◌++◌, [], length, ap, sym, ◌∙◌, arith}
 use Rattle.std.proofs.lemmas.List.{append_assoc}
 use Rattle.vm_trace.proofs.Hex.{pairs_more}
-use Rattle.vm_trace.proofs.entering.keep_hex.Goals as goal
+use Rattle.vm_trace.proofs.entering.keep_pairs.Goals as goal
 
 pub loop-i-preserved : goal.loop-i-preserved
 loop-i-preserved c =

@@ -1,6 +1,6 @@
 use Rattle.std.proofs.Common.{◌≡◌, ◌+◌, ◌*◌, ◌≤◌, ◌++◌, take, vec_capacity, vec_len}
 use Rattle.vm_trace.specs.Words.{hex_pairs}
-use Rattle.vm_trace.proofs.entering.keep_hex.Given as goal
+use Rattle.vm_trace.proofs.entering.keep_pairs.Given as goal
 
 abbrev pub invariant-loop-i : goal.invariant-loop-i
 invariant-loop-i l = record {
