@@ -1,4 +1,7 @@
 // Swap areas.
+ghost use Rattle.std.specs.Prelude.{◌≡◌, None, true};
+ghost use Rattle.std.specs.FinMap as map;
+
 use super::check_eq;
 use std::process::Abort;
 use vm_swap::{PAGE_BYTES, SwapArea};
@@ -46,7 +49,10 @@ fn swap_area(rt: HostRuntime) {
 }
 
 // One page comes in and another goes out, in the only room that there is. The page that stays is found.
-fn check_exchange(rt: &impl Abort, area: &mut SwapArea) {
+fn check_exchange(rt: &impl Abort, area: &mut SwapArea)
+    requires there { map.contains_key area.old.pages 7 ≡ true }
+    requires absent { map.get area.old.pages 2 ≡ None }
+{
     let mut buffer = [3; PAGE_BYTES];
     area.exchange(7, 2, &mut buffer);
     check_eq(rt, buffer == [7; PAGE_BYTES], true);
