@@ -15,8 +15,6 @@ mod pass;
 mod plays;
 mod round;
 mod steps;
-#[cfg(test)]
-mod tests;
 mod work;
 
 pub use board::Board;

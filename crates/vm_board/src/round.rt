@@ -41,8 +41,8 @@ pub fn run_round<R: Threads + Sync, G: Gate + Sync, J: Work + Send>(
     Ok(board.close(passes))
 }
 
-/// Each pass drains the board, in a thread of its own where one can be made.
-pub(crate) fn drain_all<R: Threads + Sync, G: Gate + Sync, J: Work + Send>(
+// Each pass drains the board, in a thread of its own where one can be made.
+fn drain_all<R: Threads + Sync, G: Gate + Sync, J: Work + Send>(
     rt: &R,
     board: &Board<J>,
     gate: &G,

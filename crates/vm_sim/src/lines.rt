@@ -158,7 +158,8 @@ pub(crate) fn push_state(text: &mut String, state: State, free: u32) -> Result<(
 
 // ---- reads
 
-// All reads of a guest.
+// All reads of a guest. It stands out of line, since most guests have none in most epochs.
+#[inline(never)]
 pub(crate) fn push_reads(
     text: &mut String,
     name: &str,
@@ -175,6 +176,7 @@ pub(crate) fn push_reads(
 
 // A stall: the guest, and the page on which it stalled.
 #[tactic(auto, unfolding(crate::specs::Lines::stall_line))]
+#[inline(never)]
 pub(crate) fn push_stall(text: &mut String, name: &str, page: u32) -> Result<(), AllocError>
     ensures { OnOk result (string_bytes text.new ≡ string_bytes text.old ++ stall_line name.now page) }
 {

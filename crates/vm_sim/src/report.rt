@@ -77,6 +77,7 @@ fn push_shown_at(text: &mut String, host: &Host, position: usize) -> Result<(), 
 /// `NAME r PAGE OFFSET BYTES` for each read in its order, with two hexadecimal digits in lower case for each byte, and then, if
 /// it stalled in this epoch, a line `NAME stall PAGE`.
 #[tactic(auto, unfolding(crate::specs::Report::epoch_text))]
+#[inline(never)]
 pub fn epoch_text(alloc: Global, host: &Host) -> Result<String, AllocError>
     ensures { IfOk result (λ text. string_bytes text ≡ epoch_text host.now) }
 {

@@ -1,14 +1,13 @@
 ghost use Rattle.std.specs.Prelude.{◌≡◌, ◌<◌, ◌≤◌, ◌+◌, ◌^◌, length, All, IfOk, IsTrue, vec_len};
 ghost use Rattle.vm_board.specs.Boards.{IsIdle, IsOver};
 
-use crate::round::drain_all;
-use crate::{Board, Gate, Jobs, Open, Pass, Work, run_round};
 use std::alloc::{AllocError, Global};
 use std::process::Abort;
 use std::sync::atomic::{AtomicU64, Ordering};
 use std::test::Fail;
 use std::thread::{Threads, join};
 use std::{array, thread};
+use vm_board::{Board, Gate, Jobs, Open, Pass, Work, run_round};
 
 // A job that counts its own runs.
 #[derive(Drop)]
@@ -233,6 +232,19 @@ fn drain_two<R: Threads, J: Work + Send>(
     join(rt, || drained(board, one), || drained(board, other))
 }
 
+// Each pass drains the board, one after the other.
+fn drain_each<R: Threads + Sync, J: Work + Send>(rt: &R, board: &Board<J>, passes: &mut [Pass<J>])
+    requires { All (IsIdle board.now) passes.old }
+    ensures { All (IsOver board.now) passes.new }
+{
+    thread::for_each_mut(
+        rt,
+        passes,
+        1,
+        &|_: usize, pass: &mut Pass<J>| { board.drain(&Open, pass) },
+    );
+}
+
 fn put_back<J: Work>(
     board: &Board<J>,
     list: &mut Vec<Pass<J>>,
@@ -260,7 +272,7 @@ fn two_threads_and_then_their_caller(rt: HostRuntime) -> Result<(), Fail> {
         panic!(rt; "five passes")
     };
     let (one, other) = drain_two(&rt, &board, one, other);
-    drain_all(&rt, &board, &Open, 1, passes.list.as_mut_slice());
+    drain_each(&rt, &board, passes.list.as_mut_slice());
     put_back(&board, &mut passes.list, one)?;
     put_back(&board, &mut passes.list, other)?;
     assert!(rt; ran(board.close(passes), 5, 1));
@@ -435,14 +447,13 @@ impl Work for Witness<'_> {
     }
 }
 
-// A gate that looks at its board: a number has left only where it was run, and isn't finished.
+// A gate that looks at its jobs: a number has left only where it was run.
 #[derive(Drop)]
-struct Watch<'a, 'm> {
+struct Watch<'m> {
     marks: &'m Marks,
-    board: &'a Board<Witness<'m>>,
 }
 
-impl Gate for Watch<'_, '_> {
+impl Gate for Watch<'_> {
     fn enter(&self, number: u32) {
         let marks = self.marks;
         if number < 8 {
@@ -451,20 +462,11 @@ impl Gate for Watch<'_, '_> {
     }
 
     fn leave(&self, number: u32) {
-        if number >= 8 || is_finished(self.board, number) {
-            return;
-        }
         let marks = self.marks;
-        if marks.ran[number as usize].load(Ordering::SeqCst) == 1 {
+        if number < 8 && marks.ran[number as usize].load(Ordering::SeqCst) == 1 {
             marks.left[number as usize].fetch_add(1, Ordering::SeqCst);
         }
     }
-}
-
-// Whether the board's own word of a number says that it is done.
-fn is_finished<J: Work>(board: &Board<J>, number: u32) -> bool {
-    let word = number as usize + 1;
-    word < board.table.word_count() && board.table.shared.peek(word) == 1
 }
 
 // Eight jobs that look at their gate.
@@ -478,38 +480,18 @@ fn witnesses<'a>(alloc: Global, marks: &'a Marks) -> Result<Jobs<Witness<'a>>, A
     Ok(Jobs::from(list))
 }
 
-// Three threads drain a board, whose gate looks at it.
-fn drain_watched<'m>(
-    rt: &(impl Threads + Sync),
-    marks: &'m Marks,
-    board: &Board<Witness<'m>>,
-    passes: &mut [Pass<Witness<'m>>],
-)
-    requires { All (IsIdle board.now) passes.old }
-    ensures { All (IsOver board.now) passes.new }
-{
-    let gate = Watch { marks, board };
-    drain_all(rt, board, &gate, 3, passes);
-}
-
-// Each number enters, runs, leaves and is finished, in this order. No clause says so, since a gate has no state that one could name.
+// Each number enters, runs and leaves, in this order. No clause says so, since a gate has no state that one could name.
 #[test]
 fn a_job_runs_inside_its_gate(rt: HostRuntime) -> Result<(), Fail> {
     let all = no_marks();
     let marks = &all;
     let jobs = witnesses(rt.alloc(), marks)?;
-    let Ok((board, mut passes)) = Board::new(rt.alloc(), jobs, 3) else {
+    let Ok(done) = run_round(&rt, rt.alloc(), &Watch { marks }, 3, jobs) else {
         panic!(rt; "memory")
     };
-    drain_watched(&rt, marks, &board, passes.list.as_mut_slice());
-    for number in 0..8 {
-        assert!(rt; is_finished(&board, number));
-        assert_eq!(rt;
-            marks.left[number as usize].load(Ordering::SeqCst),
-            1,
-            "{number}"
-        );
+    assert_eq!(rt; done.len(), 8);
+    for times in &marks.left {
+        assert_eq!(rt; times.load(Ordering::SeqCst), 1);
     }
-    assert_eq!(rt; board.close(passes).len(), 8);
     Ok(())
 }
