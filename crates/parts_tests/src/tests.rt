@@ -4,6 +4,7 @@ mod frames;
 mod json;
 mod page_map;
 mod pages;
+mod patches;
 mod sampling;
 mod swap;
 mod tax;

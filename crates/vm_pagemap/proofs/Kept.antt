@@ -1,16 +1,16 @@
 -- What the fields of a page map say of its pages, before and after one has changed.
-use Rattle.std.proofs.Common.{◌≡◌, ◌≢◌, ℕ, ◌+◌, ◌-◌, ◌<◌, ◌≤◌, ◌^◌, ◌==◌, Bool, true, false, cond, List, [], ◌∷◌, ◌++◌, length, map, set, vec_capacity, get_or, refl, sym, ap, ◌∙◌, ◌⊎◌, inl, inr, arith}
+use Rattle.std.proofs.Common.{◌≡◌, ◌≢◌, ℕ, ◌+◌, ◌-◌, ◌<◌, ◌≤◌, ◌^◌, ◌==◌, Bool, true, false, cond, List, [], ◌∷◌, ◌++◌, length, set, vec_capacity, get_or, refl, sym, ap, ◌∙◌, ◌⊎◌, inl, inr, arith}
 use Rattle.std.proofs.lemmas.Bool.{eq-eqb, ne_eqb, cond-true, cond-false, cases_eq, cases_lt}
 use Rattle.std.proofs.lemmas.List.{length-set, length-append, length-map, get_or-set_same, get_or-set_other, get_or_append_left, get_or_push, get_or_read, get_or-replicate, length-replicate}
 use Rattle.std.proofs.lemmas.List.FromFn.{length-map-range_with_len, get_or-map-range_with_len, fill_by_all}
-use Rattle.std.specs.List.{range_with_len}
 use Rattle.vm_pages.specs.Pages.{no_pages, contains, insert, remove, count}
 use Rattle.vm_pages.proofs.PageSets.{same_pages, lt-length, length-insert, length-remove, length-no_pages, count-no_pages, count-insert, count-remove, contains-no_pages, contains-remove_before, contains-insert_same, contains-insert_other, contains-remove_same, contains-remove_other}
 use Rattle.vm_pagemap.specs.declared.page_map.Page.{Page}
 use Rattle.vm_pagemap.specs.declared.page_map.Page.TheVariants.{Absent, In, Out}
 use Rattle.vm_pagemap.specs.declared.page_map.Held.{Held}
 use Rattle.vm_pagemap.specs.declared.page_map.PageMap.TheInside.{Inside}
-use Rattle.vm_pagemap.specs.PageMap.{absent_pages, page_at, resident, is_in, overwritten, written}
+use Rattle.vm_patches.specs.Patches.{overwritten}
+use Rattle.vm_pagemap.specs.PageMap.{absent_pages, page_at, resident, is_in, written}
 use Rattle.vm_pagemap.proofs.Resident.{contains-resident}
 use Rattle.vm_pagemap.specs.Kept.{nothing_held, held_at, page_of, page_under, pages_of, AreSlotted, IsKept}
 

@@ -6,7 +6,8 @@ use Rattle.vm_frames.specs.Frame.{FrameView}
 use Rattle.vm_pagemap.specs.declared.page_map.Page.{Page}
 use Rattle.vm_pagemap.specs.declared.page_map.Page.TheVariants.{Absent, In, Out}
 use Rattle.vm_pagemap.specs.declared.page_map.Place.TheVariants.{Absent as IsAbsentPlace, In as IsInPlace, Out as IsOutPlace}
-use Rattle.vm_pagemap.specs.PageMap.{page_at, place_of, places_of, resident, bytes_of, overwritten, is_in, is_in_place, written, IsIn}
+use Rattle.vm_patches.specs.Patches.{overwritten}
+use Rattle.vm_pagemap.specs.PageMap.{page_at, place_of, places_of, resident, bytes_of, is_in, is_in_place, written, IsIn}
 
 -- what a page is after it has changed
 pub page_at-set : (pages : List Page) (page : ℕ) (new : Page) → page < length pages → page_at (set pages page new) page ≡ new

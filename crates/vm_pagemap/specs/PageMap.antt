@@ -1,5 +1,6 @@
 -- A guest's pages, each with its place and, where it is in, its frame.
-use Rattle.std.specs.Prelude.{◌≡◌, ℕ, ◌+◌, Bool, true, false, List, [], ◌++◌, map, length, take, drop, replicate, slice_index_or}
+use Rattle.std.specs.Prelude.{◌≡◌, ℕ, Bool, true, false, List, [], map, replicate, slice_index_or}
+use Rattle.vm_patches.specs.Patches.{overwritten}
 use Rattle.vm_pagemap.specs.declared.page_map.Page.{Page}
 use Rattle.vm_pagemap.specs.declared.page_map.Page.TheVariants.{Absent, In, Out}
 use Rattle.vm_pagemap.specs.declared.page_map.Place.{Place}
@@ -49,10 +50,6 @@ abbrev pub bytes_of : Page → List ℕ
 bytes_of Absent = []
 bytes_of (In frame) = frame.bytes
 bytes_of Out = []
-
--- the bytes with `new` written over them from `offset` on
-abbrev pub overwritten : List ℕ → ℕ → List ℕ → List ℕ
-overwritten bytes offset new = take offset bytes ++ new ++ drop (offset + length new) bytes
 
 -- a page that is in, with bytes written to its frame
 abbrev pub written : Page → ℕ → List ℕ → Page

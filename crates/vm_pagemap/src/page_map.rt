@@ -1,12 +1,14 @@
 ghost use Rattle.std.specs.Prelude.{◌≡◌, ℕ, ◌+◌, ◌==◌, ◌<◌, ◌≤◌, if◌then◌else◌, length, get_or, slice_range, slice_set, slice_index, vec_len, vec_capacity, IfOk, OnErr};
 ghost use Rattle.vm_pages.specs.Pages.{count, members};
-ghost use Rattle.vm_pagemap.specs.PageMap.{absent_pages, page_at, place_of, bytes_of, overwritten, resident, written, IsIn, IsNotIn};
+ghost use Rattle.vm_patches.specs.Patches.{overwritten};
+ghost use Rattle.vm_pagemap.specs.PageMap.{absent_pages, page_at, place_of, bytes_of, resident, written, IsIn, IsNotIn};
 ghost use Rattle.vm_pagemap.specs.declared.page_map.Page.TheVariants.{In, Out, Absent};
 
 use std::alloc::{AllocError, Global};
 use std::marker::Model;
 use vm_frames::{Frame, PAGE_BYTES};
 use vm_pages::PageSet;
+use vm_patches::PatchedFrame;
 
 /// Where a page of a guest is.
 #[derive(Clone, Copy, Debug, PartialEq, Eq)]
@@ -32,7 +34,7 @@ pub enum Page {
 // A frame that is under a page.
 struct Held {
     page: u32,
-    frame: Frame,
+    frame: PatchedFrame,
 }
 
 /// Where each page of a guest is, with the frames of those that are in: the pmap of Waldspurger, OSDI 2002, section 2.
@@ -111,8 +113,7 @@ impl PageMap {
         ensures { bytes.new ≡ slice_range (bytes_of (page_at self.now page)) offset (offset + length bytes.old) }
     {
         let slot = self.slots[page as usize] as usize;
-        let frame = &self.held[slot].frame;
-        bytes.copy_from_slice(&frame.bytes()[offset..offset + bytes.len()]);
+        self.held[slot].frame.read(offset, bytes);
     }
 
     /// Writes bytes to a page that is in, from `offset` on. Its other bytes stay, and it keeps its frame.
@@ -136,11 +137,34 @@ impl PageMap {
         self.resident.insert(page);
         let _was_out = self.out.remove(page);
         note_slot(&mut self.slots, page, slot);
-        self.held.push_reserved(Held { page, frame });
+        self.held.push_reserved(Held {
+            page,
+            frame: PatchedFrame::new(frame),
+        });
     }
 
     /// Takes a page's frame from it, with its bytes. The page is absent then.
     pub fn remove_frame(&mut self, page: u32) -> Frame
+        requires in_range { page < length self.old }
+        requires is_in { IsIn (page_at self.old page) }
+        ensures frame { page_at self.old page ≡ In result }
+        ensures absent { self.new ≡ slice_set self.old page Absent }
+    {
+        self.unmap(page).into_frame()
+    }
+
+    /// Takes a page's frame from it, with whatever bytes, once the page's are not wanted any more. The page is absent then.
+    pub fn release_frame(&mut self, page: u32) -> Frame
+        requires in_range { page < length self.old }
+        requires is_in { IsIn (page_at self.old page) }
+        ensures frame { page_at self.old page ≡ In (record result { bytes = bytes_of (page_at self.old page) }) }
+        ensures absent { self.new ≡ slice_set self.old page Absent }
+    {
+        self.unmap(page).release()
+    }
+
+    // Takes a page's frame from it. The page is absent then.
+    fn unmap(&mut self, page: u32) -> PatchedFrame
         requires in_range { page < length self.old }
         requires is_in { IsIn (page_at self.old page) }
         ensures frame { page_at self.old page ≡ In result }
@@ -219,11 +243,11 @@ fn note_slot(slots: &mut Vec<u32>, page: u32, slot: u32)
     slots[at] = slot;
 }
 
-// Writes bytes to a frame.
+// Writes bytes to the page of a frame.
 fn write_held(held: &mut Held, offset: usize, bytes: &[u8])
     requires { offset + length bytes.now ≤ PAGE_BYTES }
     ensures page { held.new.page ≡ held.old.page }
     ensures frame { held.new.frame ≡ record held.old.frame { bytes = overwritten held.old.frame.bytes offset bytes.now } }
 {
-    held.frame.bytes_mut()[offset..offset + bytes.len()].copy_from_slice(bytes);
+    held.frame.write(offset, bytes);
 }

@@ -71,3 +71,20 @@ fn pages_come_and_go(rt: HostRuntime) {
     map.close();
     close_machine(&rt, machine, 1);
 }
+
+#[test]
+fn a_released_page_is_absent(rt: HostRuntime) {
+    let mut machine = Machine::new(rt.alloc(), 1).expect(&rt, "memory");
+    let mut map = PageMap::new(rt.alloc(), 4).expect(&rt, "memory");
+    if let Some(frame) = machine.take() {
+        let number = frame.number();
+        map.put_frame(3, frame);
+        let frame = map.release_frame(3);
+        check_eq(&rt, frame.number(), number);
+        machine.give(frame);
+    }
+    check_place(&rt, &map, 3, Place::Absent);
+    check_resident(&rt, &map, &[]);
+    map.close();
+    close_machine(&rt, machine, 1);
+}

@@ -1,4 +1,4 @@
-use Rattle.std.proofs.Common.{ap, sym, ◌∙◌, arith}
+use Rattle.std.proofs.Common.{ap, arith}
 use Rattle.vm_pages.specs.Pages.{count}
 use Rattle.vm_pagemap.proofs.Kept.{shown-resident}
 use Rattle.vm_pagemap.proofs.page_map.PageMap.close.Goals as goal

@@ -1,8 +1,4 @@
-use Rattle.std.proofs.Common.{◌≡◌, ◌<◌, true, false, length, ap, sym, ◌∙◌, arith}
-use Rattle.std.specs.Prelude.{slice_set}
-use Rattle.vm_pages.specs.Pages.{contains}
-use Rattle.vm_pages.proofs.PageSets.{contains-insert_other}
-use Rattle.vm_pagemap.specs.declared.page_map.Page.TheVariants.{Out}
+use Rattle.std.proofs.Common.{sym, ◌∙◌, arith}
 use Rattle.vm_pagemap.proofs.Kept.{shown-within, shown-in, pages_of-mark_out, apart-insert}
 use Rattle.vm_pagemap.proofs.page_map.PageMap.mark_out.Goals as goal
 

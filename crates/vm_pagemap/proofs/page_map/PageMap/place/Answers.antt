@@ -1,5 +1,5 @@
-use Rattle.std.proofs.Common.{◌≡◌, true, false, ap, sym, ◌∙◌, arith}
-use Rattle.vm_pagemap.specs.PageMap.{place_of, is_in}
+use Rattle.std.proofs.Common.{true, false, ap, sym, ◌∙◌, arith}
+use Rattle.vm_pagemap.specs.PageMap.{place_of}
 use Rattle.vm_pagemap.proofs.Kept.{shown-within, shown-in, shown-frame, shown-not_in}
 use Rattle.vm_pagemap.proofs.page_map.PageMap.place.Goals as goal
 

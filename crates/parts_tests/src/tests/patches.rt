@@ -1,0 +1,68 @@
+// Pages of few written bytes.
+ghost use Rattle.std.specs.Prelude.{◌+◌, ◌≤◌, length};
+
+use super::check_eq;
+use super::frames::close_machine;
+use std::process::Abort;
+use vm_frames::{Machine, PAGE_BYTES};
+use vm_patches::{Patch, PatchedFrame};
+
+// Five bytes of a page.
+fn check_five(rt: &impl Abort, page: &PatchedFrame, offset: usize, wanted: [u8; 5])
+    requires { offset + 5 ≤ PAGE_BYTES }
+{
+    let mut bytes = [0; 5];
+    page.read(offset, &mut bytes);
+    check_eq(rt, bytes, wanted);
+}
+
+#[test]
+fn later_writes_cover_earlier_ones(rt: HostRuntime) {
+    let mut patch = Patch::new();
+    check_eq(&rt, patch.has_room(12), true);
+    check_eq(&rt, patch.has_room(13), false);
+    patch.write(10, &[1, 2, 3]);
+    patch.write(11, &[7]);
+    check_eq(&rt, patch.has_room(8), true);
+    check_eq(&rt, patch.has_room(9), false);
+    let mut page = [9; PAGE_BYTES];
+    let mut bytes = [0; 5];
+    patch.read(&page, 9, &mut bytes);
+    check_eq(&rt, bytes, [9, 1, 7, 3, 9]);
+    patch.apply(&mut page);
+    check_eq(&rt, [page[9], page[10], page[11], page[12]], [9, 1, 7, 3]);
+}
+
+#[test]
+#[tactic(auto, using(vm_frames::proofs::NumberSets::set_members))]
+fn a_page_outgrows_its_patch(rt: HostRuntime) {
+    let mut machine = Machine::new(rt.alloc(), 1).expect(&rt, "memory");
+    let frame = machine.take().expect(&rt, "a free frame");
+    let number = frame.number();
+    let mut page = PatchedFrame::new(frame);
+    page.write(4086, &[1, 2, 3, 4, 5, 6, 7, 8, 9, 10]);
+    check_five(&rt, &page, 4083, [0, 0, 0, 1, 2]);
+    page.write(4085, &[11, 12, 13]);
+    check_five(&rt, &page, 4083, [0, 0, 11, 12, 13]);
+    check_five(&rt, &page, 4091, [6, 7, 8, 9, 10]);
+    let frame = page.into_frame();
+    check_eq(&rt, frame.number(), number);
+    check_eq(&rt, frame.bytes()[4095], 10);
+    // The frame's bytes are the page's, where it is mapped again.
+    let page = PatchedFrame::new(frame);
+    check_five(&rt, &page, 4083, [0, 0, 11, 12, 13]);
+    machine.give(page.release());
+    close_machine(&rt, machine, 1);
+}
+
+#[test]
+#[tactic(auto, using(vm_frames::proofs::NumberSets::set_members))]
+fn a_patch_comes_with_its_frame(rt: HostRuntime) {
+    let mut machine = Machine::new(rt.alloc(), 1).expect(&rt, "memory");
+    let mut page = PatchedFrame::new(machine.take().expect(&rt, "a free frame"));
+    page.write(2, &[5]);
+    let frame = page.into_frame();
+    check_eq(&rt, [frame.bytes()[1], frame.bytes()[2]], [0, 5]);
+    machine.give(frame);
+    close_machine(&rt, machine, 1);
+}

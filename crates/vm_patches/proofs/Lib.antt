@@ -1,0 +1,3 @@
+pub mod Writes
+mod Zeros
+mod Contents

@@ -1,0 +1,12 @@
+//! Pages of few written bytes, which take the room of those bytes and not that of a page.
+//!
+//! A [`Patch`] is what was written to a page, byte by byte: so Difference Engine (Gupta and others, OSDI 2008, section 3.2) keeps a
+//! page that differs in little from another. A [`PatchedFrame`] is a frame of zeros and a patch, until more is written than the
+//! patch has room for. Then its bytes stand in the frame.
+#![tactic(auto)]
+
+pub mod patch;
+pub mod patched_frame;
+
+pub use patch::{ByteWrite, PATCH_BYTES, Patch};
+pub use patched_frame::PatchedFrame;
