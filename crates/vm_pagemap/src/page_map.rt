@@ -6,7 +6,7 @@ ghost use Rattle.vm_pagemap.specs.declared.page_map.Page.TheVariants.{In, Out, A
 
 use std::alloc::{AllocError, Global};
 use std::marker::Model;
-use vm_frames::{Frame, PAGE_BYTES};
+use vm_frames::PAGE_BYTES;
 use vm_pages::PageSet;
 use vm_patches::PatchedFrame;
 
@@ -26,7 +26,7 @@ pub enum Page {
     /// Nowhere.
     Absent,
     /// In this frame.
-    In(Frame),
+    In(PatchedFrame),
     /// In the guest's swap area, of which the map knows nothing.
     Out,
 }
@@ -127,8 +127,8 @@ impl PageMap {
         write_held(&mut self.held[slot], offset, bytes);
     }
 
-    /// Puts a page into a frame, which it then reads as. The frame's bytes are those that it has.
-    pub fn put_frame(&mut self, page: u32, frame: Frame)
+    /// Puts a page into a frame, whose bytes it has then.
+    pub fn put_frame(&mut self, page: u32, frame: PatchedFrame)
         requires in_range { page < length self.old }
         requires not_in { IsNotIn (page_at self.old page) }
         ensures { self.new ≡ slice_set self.old page (In frame) }
@@ -137,34 +137,11 @@ impl PageMap {
         self.resident.insert(page);
         let _was_out = self.out.remove(page);
         note_slot(&mut self.slots, page, slot);
-        self.held.push_reserved(Held {
-            page,
-            frame: PatchedFrame::new(frame),
-        });
+        self.held.push_reserved(Held { page, frame });
     }
 
     /// Takes a page's frame from it, with its bytes. The page is absent then.
-    pub fn remove_frame(&mut self, page: u32) -> Frame
-        requires in_range { page < length self.old }
-        requires is_in { IsIn (page_at self.old page) }
-        ensures frame { page_at self.old page ≡ In result }
-        ensures absent { self.new ≡ slice_set self.old page Absent }
-    {
-        self.unmap(page).into_frame()
-    }
-
-    /// Takes a page's frame from it, with whatever bytes, once the page's are not wanted any more. The page is absent then.
-    pub fn release_frame(&mut self, page: u32) -> Frame
-        requires in_range { page < length self.old }
-        requires is_in { IsIn (page_at self.old page) }
-        ensures frame { page_at self.old page ≡ In (record result { bytes = bytes_of (page_at self.old page) }) }
-        ensures absent { self.new ≡ slice_set self.old page Absent }
-    {
-        self.unmap(page).release()
-    }
-
-    // Takes a page's frame from it. The page is absent then.
-    fn unmap(&mut self, page: u32) -> PatchedFrame
+    pub fn remove_frame(&mut self, page: u32) -> PatchedFrame
         requires in_range { page < length self.old }
         requires is_in { IsIn (page_at self.old page) }
         ensures frame { page_at self.old page ≡ In result }

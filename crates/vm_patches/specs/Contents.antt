@@ -1,5 +1,5 @@
 -- What a page contains whose few bytes are kept beside its frame.
-use Rattle.std.specs.Prelude.{◌≡◌, ℕ, ◌++◌, List, Option, None, Some}
+use Rattle.std.specs.Prelude.{◌≡◌, ℕ, ◌++◌, List, [], Option, None, Some}
 use Rattle.vm_patches.specs.declared.patch.ByteWrite.{ByteWrite}
 use Rattle.vm_patches.specs.Patches.{patched, writes_of, zero_bytes}
 
@@ -12,3 +12,8 @@ contents_of (Some writes) bytes = patched zero_bytes writes
 abbrev pub IsWritten : Option (List ByteWrite) → Option (List ByteWrite) → ℕ → List ℕ → Type 0
 IsWritten None new offset bytes = ⊥
 IsWritten (Some writes) new offset bytes = new ≡ Some (writes ++ writes_of offset bytes)
+
+-- a patch that changes nothing, where there is one
+abbrev pub blank_where_some : Option (List ByteWrite) → Option (List ByteWrite)
+blank_where_some None = None
+blank_where_some (Some writes) = Some []

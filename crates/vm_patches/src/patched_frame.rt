@@ -1,10 +1,11 @@
-ghost use Rattle.std.specs.Prelude.{◌≡◌, ◌+◌, ◌≤◌, None, length, slice_range};
+ghost use Rattle.std.specs.Prelude.{◌≡◌, ◌+◌, ◌≤◌, None, IfSome, IfNone, length, slice_range};
 ghost use Rattle.std.specs.Bool.{OnTrue, OnFalse};
-ghost use Rattle.vm_patches.specs.Patches.{overwritten, zero_bytes};
-ghost use Rattle.vm_patches.specs.Contents.{contents_of, IsWritten};
+ghost use Rattle.vm_patches.specs.Patches.{overwritten, patched, zero_bytes};
+ghost use Rattle.vm_patches.specs.Contents.{blank_where_some, contents_of, IsWritten};
 
 use crate::patch::Patch;
 use std::marker::Model;
+use std::mem::swap;
 use vm_frames::{Frame, PAGE_BYTES};
 
 const ZEROS: [u8; PAGE_BYTES] = [0; PAGE_BYTES];
@@ -61,6 +62,39 @@ impl PatchedFrame {
         }
     }
 
+    /// Takes the page's bytes, where they are kept as a patch, and leaves a page of zeros.
+    pub fn take_patch(&mut self) -> Option<Patch>
+        ensures some { IfSome result (λ patch. self.old.bytes ≡ patched zero_bytes patch) }
+        ensures taken { IfSome result (λ patch. self.new ≡ record self.old { bytes = zero_bytes }) }
+        ensures none { IfNone result (self.new ≡ self.old) }
+    {
+        take_few(&mut self.patch)
+    }
+
+    /// Makes it a page of zeros that has the writes of the patch. The frame's memory is not touched.
+    pub fn set_patch(&mut self, patch: Patch)
+        ensures { self.new ≡ record self.old { bytes = patched zero_bytes patch } }
+    {
+        self.patch = Some(patch);
+    }
+
+    /// Makes them the page's bytes.
+    pub fn set_bytes(&mut self, bytes: &[u8; PAGE_BYTES])
+        ensures { self.new ≡ record self.old { bytes = bytes.now } }
+    {
+        self.patch = None;
+        *self.frame.bytes_mut() = *bytes;
+    }
+
+    /// Exchanges the page's bytes with those of the buffer.
+    pub fn exchange(&mut self, buffer: &mut [u8; PAGE_BYTES])
+        ensures page { self.new ≡ record self.old { bytes = buffer.old } }
+        ensures buffer { buffer.new ≡ self.old.bytes }
+    {
+        settle(&mut self.patch, &mut self.frame);
+        swap(self.frame.bytes_mut(), buffer);
+    }
+
     /// The frame, with the page's bytes.
     pub fn into_frame(self) -> Frame
         ensures { result ≡ self }
@@ -106,6 +140,18 @@ fn write_few(patch: &mut Option<Patch>, offset: usize, bytes: &[u8]) -> bool
         }
     }
     false
+}
+
+// Takes the patch, if there is one, and leaves one that changes nothing.
+fn take_few(patch: &mut Option<Patch>) -> Option<Patch>
+    ensures taken { result ≡ patch.old }
+    ensures left { patch.new ≡ blank_where_some patch.old }
+{
+    if patch.is_some() {
+        patch.replace(Patch::new())
+    } else {
+        None
+    }
 }
 
 // Brings the page's bytes into the frame.

@@ -11,33 +11,33 @@ use Rattle.std.specs.FinMap.{FinMap, get, find, insert, remove, len, from_entrie
 use Rattle.vm_swap.specs.Slots.{Indexes, pages_of}
 
 -- the bytes of the first entry with this page
-abbrev first_at : ℕ → List (ℕ × List ℕ) → Option (List ℕ)
+abbrev first_at : {V : Type 0} → ℕ → List (ℕ × V) → Option V
 first_at q [] = None
 first_at q (e ∷ es) = cond (q == e.0) (Some e.1) (first_at q es)
 
 -- the bytes in the slot that the index finds
-abbrev pub look_up : List (Option ℕ) → List (ℕ × List ℕ) → ℕ → Option (List ℕ)
+abbrev pub look_up : {V : Type 0} → List (Option ℕ) → List (ℕ × V) → ℕ → Option V
 look_up index es q = option_and_then (λ i. option_map (λ e. e.1) (slice_get es i)) (get_or index q None)
 
-find-first : (es : List (ℕ × List ℕ)) (q : ℕ) → find nat_cmp q es ≡ first_at q es
+find-first : {V : Type 0} (es : List (ℕ × V)) (q : ℕ) → find nat_cmp q es ≡ first_at q es
 find-first [] q = refl
 find-first (e ∷ es) q =
     ap (λ b. cond b (Some e.1) (find nat_cmp q es)) (unsigned_tied q e.0) ∙ ap (cond (q == e.0) (Some e.1)) (find-first es q)
 
-first_at-slot : (es : List (ℕ × List ℕ)) (q i : ℕ) → slice_get (pages_of es) i ≡ Some q → ((j : ℕ) → slice_get (pages_of es) j ≡ Some q → j ≡ i) → first_at q es ≡ option_map (λ e. e.1) (slice_get es i)
+first_at-slot : {V : Type 0} (es : List (ℕ × V)) (q i : ℕ) → slice_get (pages_of es) i ≡ Some q → ((j : ℕ) → slice_get (pages_of es) j ≡ Some q → j ≡ i) → first_at q es ≡ option_map (λ e. e.1) (slice_get es i)
 first_at-slot [] q i h only = absurd (none-some q h)
 first_at-slot (e ∷ es) q zero h only = cond-true _ _ _ (eq-eqb q e.0 (sym (same_Some _ _ h)))
 first_at-slot (e ∷ es) q (suc i) h only =
     cond-false _ _ _ (ne_eqb q e.0 (λ same. let z : 0 ≡ suc i = only 0 (ap Some (sym same)) in omega arith))
     ∙ first_at-slot es q i h (λ j g. let z : suc j ≡ suc i = only (suc j) g in omega arith)
 
-first_at-none : (es : List (ℕ × List ℕ)) (q : ℕ) → ((j : ℕ) → slice_get (pages_of es) j ≡ Some q → ⊥) → first_at q es ≡ None
+first_at-none : {V : Type 0} (es : List (ℕ × V)) (q : ℕ) → ((j : ℕ) → slice_get (pages_of es) j ≡ Some q → ⊥) → first_at q es ≡ None
 first_at-none [] q none = refl
 first_at-none (e ∷ es) q none =
     cond-false _ _ _ (ne_eqb q e.0 (λ same. none 0 (ap Some (sym same)))) ∙ first_at-none es q (λ j g. none (suc j) g)
 
 -- what the map of the entries has is what lies in the slot that the index finds
-pub get-look_up : (index : List (Option ℕ)) (es : List (ℕ × List ℕ)) (q : ℕ) → Indexes index (pages_of es) → get (from_entries {R = nat_cmp} es) q ≡ look_up index es q
+pub get-look_up : {V : Type 0} (index : List (Option ℕ)) (es : List (ℕ × V)) (q : ℕ) → Indexes index (pages_of es) → get (from_entries {R = nat_cmp} es) q ≡ look_up index es q
 get-look_up index es q x =
     get-from_entries nat_cmp_total es q ∙ find-first es q
     ∙ elim (get_or index q None) as (λ o. get_or index q None ≡ o → first_at q es ≡ option_and_then (λ i. option_map (λ e. e.1) (slice_get es i)) o) [
@@ -103,20 +103,20 @@ nat_get-insert m k v q = get-insert nat_cmp_total m k v q ∙ ap (λ b. cond b (
 pub nat_get-remove : {X : Type 0} (m : FinMap nat_cmp X) (k q : ℕ) → get (remove m k) q ≡ cond (q == k) None (get m q)
 nat_get-remove m k q = get-remove nat_cmp_total m k q ∙ ap (λ b. cond b None (get m q)) (unsigned_tied q k)
 
-pages_of-push : (es : List (ℕ × List ℕ)) (k : ℕ) (v : List ℕ) → pages_of (es ++ (k, v) ∷ []) ≡ pages_of es ++ k ∷ []
+pages_of-push : {V : Type 0} (es : List (ℕ × V)) (k : ℕ) (v : V) → pages_of (es ++ (k, v) ∷ []) ≡ pages_of es ++ k ∷ []
 pages_of-push es k v = map-append (λ e. e.0) es ((k, v) ∷ [])
 
-slice_get-pages : (es : List (ℕ × List ℕ)) (i : ℕ) → slice_get (pages_of es) i ≡ option_map (λ e. e.0) (slice_get es i)
+slice_get-pages : {V : Type 0} (es : List (ℕ × V)) (i : ℕ) → slice_get (pages_of es) i ≡ option_map (λ e. e.0) (slice_get es i)
 slice_get-pages es i = slice_get-map (λ e. e.0) es i
 
 -- an entry whose page is known
-pub entry_at : (es : List (ℕ × List ℕ)) (i k : ℕ) → slice_get (pages_of es) i ≡ Some k → (v : List ℕ) × (slice_get es i ≡ Some (k, v))
+pub entry_at : {V : Type 0} (es : List (ℕ × V)) (i k : ℕ) → slice_get (pages_of es) i ≡ Some k → (v : V) × (slice_get es i ≡ Some (k, v))
 entry_at [] i k h = absurd (none-some k h)
 entry_at (e ∷ es) zero k h = (e.1, ap (λ p. Some (p, e.1)) (same_Some _ _ h))
 entry_at (e ∷ es) (suc i) k h = entry_at es i k h
 
 -- a page that is not in the map is not in the index
-pub unindexed : (index : List (Option ℕ)) (es : List (ℕ × List ℕ)) (k : ℕ) → Indexes index (pages_of es) → get (from_entries {R = nat_cmp} es) k ≡ None → get_or index k None ≡ None
+pub unindexed : {V : Type 0} (index : List (Option ℕ)) (es : List (ℕ × V)) (k : ℕ) → Indexes index (pages_of es) → get (from_entries {R = nat_cmp} es) k ≡ None → get_or index k None ≡ None
 unindexed index es k x none =
     elim (get_or index k None) as (λ o. get_or index k None ≡ o → o ≡ None) [
       | None ↦ λ e. refl
@@ -127,12 +127,12 @@ unindexed index es k x none =
 
 -- ---- a page put in a new slot
 
-pub Indexes-push : (index new : List (Option ℕ)) (es : List (ℕ × List ℕ)) (k : ℕ) (v : List ℕ) → Indexes index (pages_of es) → get_or index k None ≡ None → ((q : ℕ) → get_or new q None ≡ cond (q == k) (Some (length es)) (get_or index q None)) → Indexes new (pages_of (es ++ (k, v) ∷ []))
-Indexes-push index new es k v x none noted = record {
+pub Indexes-push : {V : Type 0} (index new : List (Option ℕ)) (es : List (ℕ × V)) (k : ℕ) (v : V) → Indexes index (pages_of es) → get_or index k None ≡ None → ((q : ℕ) → get_or new q None ≡ cond (q == k) (Some (length es)) (get_or index q None)) → Indexes new (pages_of (es ++ (k, v) ∷ []))
+Indexes-push {V} index new es k v x none noted = record {
   listed = λ p i h. rw pages_of-push (elim (cases_eq p k) [
     | inl same ↦
         let last : length es ≡ i = same_Some _ _ (sym (noted p ∙ cond-true _ _ _ (eq-eqb p k same)) ∙ h) in
-        rw (same, ← last, ← length-map es (λ (e : ℕ × List ℕ). e.0)) (slice_get-push (pages_of es) k)
+        rw (same, ← last, ← length-map es (λ (e : ℕ × V). e.0)) (slice_get-push (pages_of es) k)
     | inr other ↦ slice_get-append_left _ _ i p (x.listed p i (sym (noted p ∙ cond-false _ _ _ (ne_eqb p k other)) ∙ h))
   ]);
   indexed = λ p i h.
@@ -141,28 +141,28 @@ Indexes-push index new es k v x none noted = record {
             let at = x.indexed p i old in
             noted p ∙ cond-false _ _ _ (ne_eqb p k (λ same. none-some i (sym none ∙ ap (λ q. get_or index q None) (sym same) ∙ at))) ∙ at
         | inr last ↦
-            noted p ∙ cond-true _ _ _ (eq-eqb p k (sym last.1)) ∙ ap Some (sym (length-map es (λ (e : ℕ × List ℕ). e.0)) ∙ sym last.0)
+            noted p ∙ cond-true _ _ _ (eq-eqb p k (sym last.1)) ∙ ap Some (sym (length-map es (λ (e : ℕ × V). e.0)) ∙ sym last.0)
       ];
 }
 
-pub from_entries-push : (es : List (ℕ × List ℕ)) (k : ℕ) (v : List ℕ) → get (from_entries {R = nat_cmp} es) k ≡ None → from_entries {R = nat_cmp} (es ++ (k, v) ∷ []) ≡ insert (from_entries es) k v
+pub from_entries-push : {V : Type 0} (es : List (ℕ × V)) (k : ℕ) (v : V) → get (from_entries {R = nat_cmp} es) k ≡ None → from_entries {R = nat_cmp} (es ++ (k, v) ∷ []) ≡ insert (from_entries es) k v
 from_entries-push es k v none = from_entries_push nat_cmp_total nat_cmp-IsAntisymmetric es k v (sym (get-from_entries nat_cmp_total es k) ∙ none)
 
-pub len-put : (m : FinMap nat_cmp (List ℕ)) (k n : ℕ) (v : List ℕ) → get m k ≡ None → len m ≡ n → len (insert m k v) ≡ n + 1
+pub len-put : {V : Type 0} (m : FinMap nat_cmp V) (k n : ℕ) (v : V) → get m k ≡ None → len m ≡ n → len (insert m k v) ≡ n + 1
 len-put m k n v none is = len-insert nat_cmp_total m k v ∙ ap (λ o. cond (is_some o) (len m) (len m + 1)) none ∙ ap (λ a. a + 1) is
 
 -- ---- bytes written over a page
 
-pub pages_of-set : (es : List (ℕ × List ℕ)) (i k : ℕ) (v : List ℕ) → slice_get (pages_of es) i ≡ Some k → pages_of (set es i (k, v)) ≡ pages_of es
+pub pages_of-set : {V : Type 0} (es : List (ℕ × V)) (i k : ℕ) (v : V) → slice_get (pages_of es) i ≡ Some k → pages_of (set es i (k, v)) ≡ pages_of es
 pages_of-set [] i k v h = refl
 pages_of-set (e ∷ es) zero k v h = ap (λ p. p ∷ pages_of es) (sym (same_Some _ _ h))
 pages_of-set (e ∷ es) (suc i) k v h = ap (λ ps. e.0 ∷ ps) (pages_of-set es i k v h)
 
-pub from_entries-set : (index : List (Option ℕ)) (es : List (ℕ × List ℕ)) (i k : ℕ) (v : List ℕ) → Indexes index (pages_of es) → get_or index k None ≡ Some i → from_entries {R = nat_cmp} (set es i (k, v)) ≡ insert (from_entries es) k v
-from_entries-set index es i k v x at =
+pub from_entries-set : {V : Type 0} (index : List (Option ℕ)) (es : List (ℕ × V)) (i k : ℕ) (v : V) → Indexes index (pages_of es) → get_or index k None ≡ Some i → from_entries {R = nat_cmp} (set es i (k, v)) ≡ insert (from_entries es) k v
+from_entries-set {V} index es i k v x at =
     let place = x.listed k i at in
     let after : Indexes index (pages_of (set es i (k, v))) = subst (Indexes index) (sym (pages_of-set es i k v place)) x in
-    let within : i < length es = let w = slice_get_within (pages_of es) i k place in omega (arith, w, length-map es (λ (e : ℕ × List ℕ). e.0)) in
+    let within : i < length es = let w = slice_get_within (pages_of es) i k place in omega (arith, w, length-map es (λ (e : ℕ × V). e.0)) in
     same_map nat_cmp_total nat_cmp-IsAntisymmetric _ _ (λ q.
     get-look_up index _ q after
     ∙ elim (cases_eq q k) [
@@ -176,7 +176,7 @@ from_entries-set index es i k v x at =
           ∙ sym (nat_get-insert (from_entries es) k v q ∙ cond-false _ _ _ (ne_eqb q k other) ∙ get-look_up index es q x)
     ])
 
-pub len-write : (m : FinMap nat_cmp (List ℕ)) (k : ℕ) (v w : List ℕ) → get m k ≡ Some w → len (insert m k v) ≡ len m
+pub len-write : {V : Type 0} (m : FinMap nat_cmp V) (k : ℕ) (v w : V) → get m k ≡ Some w → len (insert m k v) ≡ len m
 len-write m k v w is = len-insert nat_cmp_total m k v ∙ ap (λ o. cond (is_some o) (len m) (len m + 1)) is
 
 -- ---- a page forgotten, and the last slot in its place
@@ -248,9 +248,9 @@ Indexes-swap_remove index new pages left page moved i x r here last noted =
       ];
     }
 
-pages_of-replaces : (es left : List (ℕ × List ℕ)) (i : ℕ) → Replaces es left i → Replaces (pages_of es) (pages_of left) i
-pages_of-replaces es left i r =
-    let len_is : length (pages_of es) ≡ length es = length-map es (λ (e : ℕ × List ℕ). e.0) in
+pages_of-replaces : {V : Type 0} (es left : List (ℕ × V)) (i : ℕ) → Replaces es left i → Replaces (pages_of es) (pages_of left) i
+pages_of-replaces {V} es left i r =
+    let len_is : length (pages_of es) ≡ length es = length-map es (λ (e : ℕ × V). e.0) in
     record {
       gone = λ j l. slice_get-pages left j ∙ ap (option_map (λ e. e.0)) (r.gone j (omega arith));
       hole = λ l. slice_get-pages left i ∙ ap (option_map (λ e. e.0)) (r.hole (omega arith)) ∙ sym (slice_get-pages es (length es - 1)) ∙ ap (λ n. slice_get (pages_of es) (n - 1)) (sym len_is);
@@ -258,20 +258,20 @@ pages_of-replaces es left i r =
     }
 
 -- what the last slot has
-last_entry : (es : List (ℕ × List ℕ)) (moved : ℕ) → slice_get (pages_of es) (length es - 1) ≡ Some moved → slice_get (pages_of es) (length (pages_of es) - 1) ≡ Some moved
-last_entry es moved last = ap (λ n. slice_get (pages_of es) (n - 1)) (length-map es (λ (e : ℕ × List ℕ). e.0)) ∙ last
+last_entry : {V : Type 0} (es : List (ℕ × V)) (moved : ℕ) → slice_get (pages_of es) (length es - 1) ≡ Some moved → slice_get (pages_of es) (length (pages_of es) - 1) ≡ Some moved
+last_entry {V} es moved last = ap (λ n. slice_get (pages_of es) (n - 1)) (length-map es (λ (e : ℕ × V). e.0)) ∙ last
 
-pub Indexes-forgets : (index new : List (Option ℕ)) (es : List (ℕ × List ℕ)) (page moved i : ℕ) (d : ℕ × List ℕ) → Indexes index (pages_of es) → get_or index page None ≡ Some i → slice_get (pages_of es) (length es - 1) ≡ Some moved → Forgets index new page moved i → Indexes new (pages_of (swap_remove es i d))
-Indexes-forgets index new es page moved i d x at last noted =
+pub Indexes-forgets : {V : Type 0} (index new : List (Option ℕ)) (es : List (ℕ × V)) (page moved i : ℕ) (d : ℕ × V) → Indexes index (pages_of es) → get_or index page None ≡ Some i → slice_get (pages_of es) (length es - 1) ≡ Some moved → Forgets index new page moved i → Indexes new (pages_of (swap_remove es i d))
+Indexes-forgets {V} index new es page moved i d x at last noted =
     let here = x.listed page i at in
-    let within : i < length es = let w = slice_get_within (pages_of es) i page here in omega (arith, w, length-map es (λ (e : ℕ × List ℕ). e.0)) in
+    let within : i < length es = let w = slice_get_within (pages_of es) i page here in omega (arith, w, length-map es (λ (e : ℕ × V). e.0)) in
     Indexes-swap_remove index new (pages_of es) _ page moved i x (pages_of-replaces es _ i (replaces es i d within)) here (last_entry es moved last) noted
 
-look_up-forgets : (index new : List (Option ℕ)) (es left : List (ℕ × List ℕ)) (page moved i : ℕ) → Indexes index (pages_of es) → Replaces es left i → get_or index page None ≡ Some i → slice_get (pages_of es) (length es - 1) ≡ Some moved → Forgets index new page moved i → (q : ℕ) → look_up new left q ≡ cond (q == page) None (look_up index es q)
-look_up-forgets index new es left page moved i x r at last noted q =
+look_up-forgets : {V : Type 0} (index new : List (Option ℕ)) (es left : List (ℕ × V)) (page moved i : ℕ) → Indexes index (pages_of es) → Replaces es left i → get_or index page None ≡ Some i → slice_get (pages_of es) (length es - 1) ≡ Some moved → Forgets index new page moved i → (q : ℕ) → look_up new left q ≡ cond (q == page) None (look_up index es q)
+look_up-forgets {V} index new es left page moved i x r at last noted q =
     let here = x.listed page i at in
-    let read : List (ℕ × List ℕ) → Option ℕ → Option (List ℕ) = λ l o. option_and_then (λ j. option_map (λ e. e.1) (slice_get l j)) o in
-    let len_is : length (pages_of es) ≡ length es = length-map es (λ (e : ℕ × List ℕ). e.0) in
+    let read : List (ℕ × V) → Option ℕ → Option V = λ l o. option_and_then (λ j. option_map (λ e. e.1) (slice_get l j)) o in
+    let len_is : length (pages_of es) ≡ length es = length-map es (λ (e : ℕ × V). e.0) in
     let within : i < length (pages_of es) = slice_get_within (pages_of es) i page here in
     elim (cases_eq q page) [
       | inl same ↦ ap (read left) (noted q ∙ cond-true _ _ _ (eq-eqb q page same)) ∙ sym (cond-true _ _ _ (eq-eqb q page same))
@@ -298,17 +298,17 @@ look_up-forgets index new es left page moved i x r at last noted q =
           ∙ sym (cond-false _ _ _ (ne_eqb q page other))
     ]
 
-pub from_entries-forgets : (index new : List (Option ℕ)) (es : List (ℕ × List ℕ)) (page moved i : ℕ) (d : ℕ × List ℕ) → Indexes index (pages_of es) → get_or index page None ≡ Some i → slice_get (pages_of es) (length es - 1) ≡ Some moved → Forgets index new page moved i → from_entries {R = nat_cmp} (swap_remove es i d) ≡ remove (from_entries es) page
-from_entries-forgets index new es page moved i d x at last noted =
+pub from_entries-forgets : {V : Type 0} (index new : List (Option ℕ)) (es : List (ℕ × V)) (page moved i : ℕ) (d : ℕ × V) → Indexes index (pages_of es) → get_or index page None ≡ Some i → slice_get (pages_of es) (length es - 1) ≡ Some moved → Forgets index new page moved i → from_entries {R = nat_cmp} (swap_remove es i d) ≡ remove (from_entries es) page
+from_entries-forgets {V} index new es page moved i d x at last noted =
     let here = x.listed page i at in
-    let within : i < length es = let w = slice_get_within (pages_of es) i page here in omega (arith, w, length-map es (λ (e : ℕ × List ℕ). e.0)) in
+    let within : i < length es = let w = slice_get_within (pages_of es) i page here in omega (arith, w, length-map es (λ (e : ℕ × V). e.0)) in
     same_map nat_cmp_total nat_cmp-IsAntisymmetric _ _ (λ q.
     get-look_up new _ q (Indexes-forgets index new es page moved i d x at last noted)
     ∙ look_up-forgets index new es _ page moved i x (replaces es i d within) at last noted q
     ∙ ap (cond (q == page) None) (sym (get-look_up index es q x))
     ∙ sym (nat_get-remove (from_entries es) page q))
 
-pub len-forget : (m : FinMap nat_cmp (List ℕ)) (k : ℕ) (w : List ℕ) → get m k ≡ Some w → len (remove m k) ≡ len m - 1
+pub len-forget : {V : Type 0} (m : FinMap nat_cmp V) (k : ℕ) (w : V) → get m k ≡ Some w → len (remove m k) ≡ len m - 1
 len-forget m k w is = len-remove nat_cmp_total m k ∙ ap (λ o. cond (is_some o) (len m - 1) (len m)) is
 
 -- ---- the slot of a page goes to another page
@@ -346,15 +346,15 @@ Indexes-set index new pages page other i x at free noted =
       ];
     }
 
-pub Indexes-hands_over : (index new : List (Option ℕ)) (es : List (ℕ × List ℕ)) (page other i : ℕ) (v : List ℕ) → Indexes index (pages_of es) → get_or index page None ≡ Some i → get_or index other None ≡ None → HandsOver index new page other i → Indexes new (pages_of (set es i (other, v)))
-Indexes-hands_over index new es page other i v x at free noted =
-    subst (Indexes new) (sym (map-set (λ (e : ℕ × List ℕ). e.0) es i (other, v))) (Indexes-set index new (pages_of es) page other i x at free noted)
+pub Indexes-hands_over : {V : Type 0} (index new : List (Option ℕ)) (es : List (ℕ × V)) (page other i : ℕ) (v : V) → Indexes index (pages_of es) → get_or index page None ≡ Some i → get_or index other None ≡ None → HandsOver index new page other i → Indexes new (pages_of (set es i (other, v)))
+Indexes-hands_over {V} index new es page other i v x at free noted =
+    subst (Indexes new) (sym (map-set (λ (e : ℕ × V). e.0) es i (other, v))) (Indexes-set index new (pages_of es) page other i x at free noted)
 
-pub from_entries-hands_over : (index new : List (Option ℕ)) (es : List (ℕ × List ℕ)) (page other i : ℕ) (v : List ℕ) → Indexes index (pages_of es) → get_or index page None ≡ Some i → get_or index other None ≡ None → HandsOver index new page other i → from_entries {R = nat_cmp} (set es i (other, v)) ≡ insert (remove (from_entries es) page) other v
-from_entries-hands_over index new es page other i v x at free noted =
+pub from_entries-hands_over : {V : Type 0} (index new : List (Option ℕ)) (es : List (ℕ × V)) (page other i : ℕ) (v : V) → Indexes index (pages_of es) → get_or index page None ≡ Some i → get_or index other None ≡ None → HandsOver index new page other i → from_entries {R = nat_cmp} (set es i (other, v)) ≡ insert (remove (from_entries es) page) other v
+from_entries-hands_over {V} index new es page other i v x at free noted =
     let here = x.listed page i at in
-    let within : i < length es = let w = slice_get_within (pages_of es) i page here in omega (arith, w, length-map es (λ (e : ℕ × List ℕ). e.0)) in
-    let read : List (ℕ × List ℕ) → Option ℕ → Option (List ℕ) = λ l o. option_and_then (λ j. option_map (λ e. e.1) (slice_get l j)) o in
+    let within : i < length es = let w = slice_get_within (pages_of es) i page here in omega (arith, w, length-map es (λ (e : ℕ × V). e.0)) in
+    let read : List (ℕ × V) → Option ℕ → Option V = λ l o. option_and_then (λ j. option_map (λ e. e.1) (slice_get l j)) o in
     same_map nat_cmp_total nat_cmp-IsAntisymmetric _ _ (λ q.
     get-look_up new _ q (Indexes-hands_over index new es page other i v x at free noted)
     ∙ ap (read (set es i (other, v))) (noted q)
@@ -380,12 +380,12 @@ from_entries-hands_over index new es page other i v x at free noted =
     ]
     ∙ sym (nat_get-insert (remove (from_entries es) page) other v q))
 
-pub len-hands_over : (m : FinMap nat_cmp (List ℕ)) (page other : ℕ) (v w : List ℕ) → get m page ≡ Some w → get m other ≡ None → 0 < len m → len (insert (remove m page) other v) ≡ len m
-len-hands_over m page other v w there none some =
+pub len-hands_over : {V : Type 0} (m : FinMap nat_cmp V) (page other : ℕ) (v w : V) → get m page ≡ Some w → get m other ≡ None → 0 < len m → len (insert (remove m page) other v) ≡ len m
+len-hands_over {V} m page other v w there none some =
     let gone : get (remove m page) other ≡ None = nat_get-remove m page other ∙ ap (cond (other == page) None) none ∙ same (other == page) in
     let more = len-put (remove m page) other (len m - 1) v gone (len-forget m page w there) in
     omega (arith, more)
   where
-    same : (b : Bool) → cond {A = Option (List ℕ)} b None None ≡ None
+    same : (b : Bool) → cond {A = Option V} b None None ≡ None
     same true = refl
     same false = refl

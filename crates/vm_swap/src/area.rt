@@ -1,24 +1,17 @@
-ghost use Rattle.std.specs.Prelude.{◌≡◌, ℕ, true, ◌+◌, ◌^◌, ◌<◌, ◌≤◌, ◌==◌, if◌then◌else◌, length, min, Some, None, IfSome, IfNone, IfOk, OnOk, OnErr, get_or, vec_len, vec_capacity};
+ghost use Rattle.std.specs.Prelude.{◌≡◌, true, ◌+◌, ◌^◌, ◌<◌, ◌≤◌, length, min, Some, None, IfSome, IfNone, IfOk, OnOk, OnErr, unwrap_or};
 ghost use Rattle.std.specs.Bool.{OnTrue, OnFalse};
 ghost use Rattle.std.specs.FinMap as map;
+ghost use Rattle.vm_patches.specs.Patches.{patched};
 ghost use Rattle.vm_swap.specs.Area.{zero_bytes};
+ghost use Rattle.vm_swap.specs.Merged.{merged};
 
+use crate::table::{PAGE_BYTES, PAGE_LIMIT, Table, trade_bytes};
 use std::alloc::{AllocError, Global};
 use std::marker::Model;
-use std::mem::swap;
+use vm_frames::Frame;
+use vm_patches::{Patch, PatchedFrame};
 
-/// The bytes of a page of guest memory.
-pub const PAGE_BYTES: usize = 4096;
-
-/// The pages of a guest are numbered below this, so an area never holds more of them.
-pub const PAGE_LIMIT: u32 = 262144;
-
-// The place of one page in the area.
-#[derive(Drop)]
-struct Slot {
-    page: u32,
-    bytes: [u8; PAGE_BYTES],
-}
+const ZEROS: [u8; PAGE_BYTES] = [0; PAGE_BYTES];
 
 /// The swapped pages of one guest: a finite map from page numbers to the 4096 bytes of each, with room for
 /// `capacity` pages (hypervisor swapping, Waldspurger, OSDI 2002, section 3.1). Its store is memory.
@@ -27,31 +20,29 @@ struct Slot {
 ///
 /// All room is reserved when the area is made or grows, at most for the [`PAGE_LIMIT`] pages that a guest can
 /// have, so no other call takes memory. A slot is written first when a page needs it: a system that gives out
-/// memory on first use gives none for slots that were never needed. `put`, `get_into`, `exchange`, `zero_page` and
-/// `drop_page` look a page up by one read, and copy a page at most once more.
+/// memory on first use gives none for slots that were never needed. A page that goes out of its frame as a patch stays a patch
+/// until it comes in, so that `save`, `load` and `trade` touch no page of memory for it.
 #[derive(Drop)]
 pub struct SwapArea {
     capacity: u32,
-    // The pages that are out, in no order.
-    slots: Vec<Slot>,
-    // The slot of each page, up to the greatest page that was ever out.
-    index: Vec<Option<u32>>,
+    // The pages that are out, each in one of the two: with all its bytes, or as what was written to a page of zeros. Each of the
+    // two has room for all of them, since nobody knows how many will be of few bytes.
+    whole: Table<[u8; PAGE_BYTES]>,
+    few: Table<Patch>,
 }
 
 impl Model for SwapArea {
-    ghost use Rattle.std.specs.Prelude.{◌≤◌, length, vec_capacity};
-    ghost use Rattle.std.specs.FinMap as map;
     ghost use Rattle.vm_swap.specs.Area.{Area, area_code};
 
     ghost Value = { Area };
 
     ghost coded = { area_code };
 
-    ghost use Rattle.vm_swap.specs.Slots.{entries_of, IsKept};
+    ghost use Rattle.vm_swap.specs.Merged.{merged, IsParted};
 
-    ghost view = { λ a. record { pages = map.from_entries (entries_of a.slots.items); capacity = a.capacity } };
+    ghost view = { λ a. record { pages = merged a.whole.values a.few.values; capacity = a.capacity } };
 
-    ghost invariant = { IsKept };
+    ghost invariant = { λ a. IsParted a.capacity a.whole a.few };
 }
 
 impl SwapArea {
@@ -63,8 +54,8 @@ impl SwapArea {
     {
         Ok(SwapArea {
             capacity: slots,
-            slots: Vec::with_capacity(alloc, usable(slots))?,
-            index: Vec::with_capacity(alloc, PAGE_LIMIT as usize)?,
+            whole: Table::new(alloc, usable(slots))?,
+            few: Table::new(alloc, usable(slots))?,
         })
     }
 
@@ -72,7 +63,7 @@ impl SwapArea {
     pub fn len(&self) -> u32
         ensures { result ≡ map.len self.now.pages }
     {
-        self.slots.len() as u32
+        self.whole.len() + self.few.len()
     }
 
     /// How many pages there is room for.
@@ -94,8 +85,8 @@ impl SwapArea {
         ensures below { OnErr result (self.old.capacity < PAGE_LIMIT) }
     {
         let capacity = self.capacity + more;
-        self.slots
-            .reserve_exact(usable(capacity) - self.slots.len())?;
+        self.whole.reserve(usable(capacity))?;
+        self.few.reserve(usable(capacity))?;
         self.capacity = capacity;
         Ok(())
     }
@@ -108,37 +99,56 @@ impl SwapArea {
         requires room { map.len self.old.pages < self.old.capacity }
         ensures { self.new ≡ record self.old { pages = map.insert self.old.pages page bytes.now } }
     {
-        let slot = self.slots.len() as u32;
         match <[u8; PAGE_BYTES]>::try_from(bytes) {
-            Ok(bytes) => self.slots.push_reserved(Slot { page, bytes }),
+            Ok(bytes) => self.put_whole(page, bytes),
             Err(_) => unreachable!(),
         }
-        note_slot(&mut self.index, page, slot);
     }
 
-    /// Swaps a page in and another one out, which takes its slot: the bytes of the page come into the buffer, and those that were
-    /// in it are kept for the other one, which must not be there yet.
-    pub fn exchange(&mut self, page: u32, other: u32, buffer: &mut [u8; PAGE_BYTES])
-        requires there { map.contains_key self.old.pages page ≡ true }
-        requires in_range { other < PAGE_LIMIT }
-        requires absent { map.get self.old.pages other ≡ None }
-        ensures exchanged { self.new ≡ record self.old { pages = map.insert (map.remove self.old.pages page) other buffer.old } }
-        ensures bytes { map.get self.old.pages page ≡ Some buffer.new }
+    /// Swaps a page out, and hands the frame back with whatever bytes.
+    pub fn save(&mut self, page: u32, mut frame: PatchedFrame) -> Frame
+        requires in_range { page < PAGE_LIMIT }
+        requires absent { map.get self.old.pages page ≡ None }
+        requires room { map.len self.old.pages < self.old.capacity }
+        ensures area { self.new ≡ record self.old { pages = map.insert self.old.pages page frame.bytes } }
+        ensures frame { result.number ≡ frame.number }
     {
-        match self.index[page as usize].take() {
-            Some(slot) => {
-                rewrite(&mut self.slots[slot as usize], other, buffer);
-                note_slot(&mut self.index, other, slot);
+        match frame.take_patch() {
+            Some(patch) => {
+                self.put_few(page, patch);
+                frame.release()
             }
-            None => unreachable!(),
+            None => {
+                let frame = frame.into_frame();
+                self.put_whole(page, *frame.bytes());
+                frame
+            }
         }
     }
 
-    /// Whether a page is there.
-    pub fn contains(&self, page: u32) -> bool
-        ensures { result ≡ map.contains_key self.now.pages page }
+    /// Swaps a page in: the frame gets its bytes, or zeros where the page is not there, and the page gives up its slot.
+    pub fn load(&mut self, page: u32, frame: &mut PatchedFrame)
+        ensures area { self.new ≡ record self.old { pages = map.remove self.old.pages page } }
+        ensures frame { frame.new ≡ record frame.old { bytes = unwrap_or (map.get self.old.pages page) zero_bytes } }
     {
-        slot_of(&self.index, page).is_some()
+        bring_in(&mut self.whole, &mut self.few, page, frame);
+    }
+
+    /// Swaps a page in and another one out of that frame, into its slot where it has one.
+    pub fn trade(&mut self, page: u32, other: u32, frame: &mut PatchedFrame)
+        requires in_range { other < PAGE_LIMIT }
+        requires absent { map.get self.old.pages other ≡ None }
+        requires room { map.len (map.remove self.old.pages page) < self.old.capacity }
+        ensures area { self.new ≡ record self.old { pages = map.insert (map.remove self.old.pages page) other frame.old.bytes } }
+        ensures frame { frame.new ≡ record frame.old { bytes = unwrap_or (map.get self.old.pages page) zero_bytes } }
+    {
+        match frame.take_patch() {
+            Some(patch) => {
+                self.load(page, frame);
+                self.put_few(other, patch);
+            }
+            None => self.trade_whole(page, other, frame),
+        }
     }
 
     /// Copies the bytes of a page into the buffer, and answers whether the page is there. The area keeps it.
@@ -150,13 +160,7 @@ impl SwapArea {
         ensures bytes { IfSome (map.get self.now.pages page) (λ bytes. buffer.new ≡ bytes) }
         ensures absent { IfNone (map.get self.now.pages page) (buffer.new ≡ buffer.old) }
     {
-        match slot_of(&self.index, page) {
-            Some(slot) => {
-                buffer.copy_from_slice(&self.slots[slot].bytes);
-                true
-            }
-            None => false,
-        }
+        read_page(&self.whole, &self.few, page, buffer)
     }
 
     /// Writes zeros over the bytes of a page that was freed while it was out, and answers whether it is there.
@@ -165,15 +169,10 @@ impl SwapArea {
         ensures zeroed { OnTrue result (self.new ≡ record self.old { pages = map.insert self.old.pages page zero_bytes }) }
         ensures absent { OnFalse result (self.new ≡ self.old) }
     {
-        match slot_of(&self.index, page) {
-            Some(slot) => {
-                self.slots[slot] = Slot {
-                    page,
-                    bytes: [0; PAGE_BYTES],
-                };
-                true
-            }
-            None => false,
+        if self.few.set(page, Patch::new()) {
+            true
+        } else {
+            self.whole.set(page, ZEROS)
         }
     }
 
@@ -183,17 +182,58 @@ impl SwapArea {
         ensures dropped { OnTrue result (self.new ≡ record self.old { pages = map.remove self.old.pages page }) }
         ensures absent { OnFalse result (self.new ≡ self.old) }
     {
-        match slot_of(&self.index, page) {
-            Some(slot) => {
-                // The last slot takes the place of the page's, which may be the last itself.
-                let moved = self.slots[self.slots.len() - 1].page;
-                self.slots.swap_remove(slot);
-                self.index[moved as usize] = Some(slot as u32);
-                self.index[page as usize] = None;
-                true
-            }
-            None => false,
+        let was_whole = self.whole.remove(page).is_some();
+        let was_few = self.few.remove(page).is_some();
+        was_whole || was_few
+    }
+
+    // Swaps out a page as all its bytes.
+    fn put_whole(&mut self, page: u32, bytes: [u8; PAGE_BYTES])
+        requires in_range { page < PAGE_LIMIT }
+        requires absent { map.get self.old.pages page ≡ None }
+        requires room { map.len self.old.pages < self.old.capacity }
+        ensures { self.new ≡ record self.old { pages = map.insert self.old.pages page bytes } }
+    {
+        self.whole.insert(page, bytes);
+    }
+
+    // Swaps out a page as what was written to zeros.
+    fn put_few(&mut self, page: u32, patch: Patch)
+        requires in_range { page < PAGE_LIMIT }
+        requires absent { map.get self.old.pages page ≡ None }
+        requires room { map.len self.old.pages < self.old.capacity }
+        ensures { self.new ≡ record self.old { pages = map.insert self.old.pages page (patched zero_bytes patch) } }
+    {
+        self.few.insert(page, patch);
+    }
+
+    // The trade, where the page that goes out does so as all its bytes.
+    fn trade_whole(&mut self, page: u32, other: u32, frame: &mut PatchedFrame)
+        requires in_range { other < PAGE_LIMIT }
+        requires absent { map.get self.old.pages other ≡ None }
+        requires room { map.len (map.remove self.old.pages page) < self.old.capacity }
+        ensures area { self.new ≡ record self.old { pages = map.insert (map.remove self.old.pages page) other frame.old.bytes } }
+        ensures frame { frame.new ≡ record frame.old { bytes = unwrap_or (map.get self.old.pages page) zero_bytes } }
+    {
+        if !self.trade_in_place(page, other, frame) {
+            let mut bytes = ZEROS;
+            frame.exchange(&mut bytes);
+            self.load(page, frame);
+            self.put_whole(other, bytes);
         }
+    }
+
+    // The trade, where the page that comes in is kept as all its bytes too: then those of the two change places. Else it does nothing
+    // and answers false.
+    fn trade_in_place(&mut self, page: u32, other: u32, frame: &mut PatchedFrame) -> bool
+        requires in_range { other < PAGE_LIMIT }
+        requires absent { map.get self.old.pages other ≡ None }
+        ensures area { OnTrue result (self.new ≡ record self.old { pages = map.insert (map.remove self.old.pages page) other frame.old.bytes }) }
+        ensures frame { OnTrue result (frame.new ≡ record frame.old { bytes = unwrap_or (map.get self.old.pages page) zero_bytes }) }
+        ensures same { OnFalse result (self.new ≡ self.old) }
+        ensures same_frame { OnFalse result (frame.new ≡ frame.old) }
+    {
+        trade_bytes(&mut self.whole, page, other, frame)
     }
 }
 
@@ -208,37 +248,41 @@ fn usable(capacity: u32) -> usize
     }
 }
 
-// Gives a slot to a page whose bytes are in the buffer, which gets those that were in the slot.
-fn rewrite(slot: &mut Slot, page: u32, buffer: &mut [u8; PAGE_BYTES])
-    ensures slot { slot.new ≡ record { page = page; bytes = buffer.old } }
-    ensures bytes { buffer.new ≡ slot.old.bytes }
+// Moves a page into a frame, which becomes one of zeros where the page is in neither.
+fn bring_in(
+    whole: &mut Table<[u8; PAGE_BYTES]>,
+    few: &mut Table<Patch>,
+    page: u32,
+    frame: &mut PatchedFrame,
+)
+    ensures whole { whole.new ≡ record whole.old { values = map.remove whole.old.values page } }
+    ensures few { few.new ≡ record few.old { values = map.remove few.old.values page } }
+    ensures frame { frame.new ≡ record frame.old { bytes = unwrap_or (map.get (merged whole.old.values few.old.values) page) zero_bytes } }
 {
-    slot.page = page;
-    swap(&mut slot.bytes, buffer);
+    let patch = few.remove(page);
+    match whole.get(page) {
+        Some(bytes) => frame.set_bytes(bytes),
+        None => frame.set_patch(patch.unwrap_or(Patch::new())),
+    }
+    whole.remove(page);
 }
 
-// The slot in which the index finds a page.
-fn slot_of(index: &[Option<u32>], page: u32) -> Option<usize>
-    ensures { result ≡ get_or index.now page None }
+// Copies the bytes of a page, and answers whether it is in one of the two.
+fn read_page(
+    whole: &Table<[u8; PAGE_BYTES]>,
+    few: &Table<Patch>,
+    page: u32,
+    buffer: &mut [u8],
+) -> bool
+    requires { length buffer.old ≡ PAGE_BYTES }
+    ensures found { result ≡ map.contains_key (merged whole.now.values few.now.values) page }
+    ensures bytes { IfSome (map.get (merged whole.now.values few.now.values) page) (λ bytes. buffer.new ≡ bytes) }
+    ensures absent { IfNone (map.get (merged whole.now.values few.now.values) page) (buffer.new ≡ buffer.old) }
 {
-    match index.get(page as usize) {
-        Some(Some(slot)) => Some(*slot as usize),
-        _ => None,
+    match (whole.get(page), few.get(page)) {
+        (Some(bytes), _) => buffer.copy_from_slice(bytes),
+        (None, Some(patch)) => patch.read(&ZEROS, 0, buffer),
+        (None, None) => return false,
     }
-}
-
-// Lets the index find a page in a slot, in the room that was reserved.
-fn note_slot(index: &mut Vec<Option<u32>>, page: u32, slot: u32)
-    requires in_range { page < PAGE_LIMIT }
-    requires room { PAGE_LIMIT ≤ vec_capacity index.old }
-    requires within { vec_len index.old ≤ PAGE_LIMIT }
-    ensures noted { (q : ℕ) → get_or index.new.items q None ≡ (if q == page then Some slot else get_or index.old.items q None) }
-    ensures room { PAGE_LIMIT ≤ vec_capacity index.new }
-    ensures within { vec_len index.new ≤ PAGE_LIMIT }
-{
-    let at = page as usize;
-    if index.len() <= at {
-        index.resize(at + 1, None).unwrap();
-    }
-    index[at] = Some(slot);
+    true
 }

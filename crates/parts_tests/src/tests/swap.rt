@@ -1,9 +1,12 @@
 // Swap areas.
-ghost use Rattle.std.specs.Prelude.{◌≡◌, None, true};
+ghost use Rattle.std.specs.Prelude.{◌≡◌, ◌+◌, ◌<◌, ◌≤◌, None};
 ghost use Rattle.std.specs.FinMap as map;
 
 use super::check_eq;
+use super::frames::close_machine;
 use std::process::Abort;
+use vm_frames::Machine;
+use vm_patches::PatchedFrame;
 use vm_swap::{PAGE_BYTES, SwapArea};
 
 // The page is there, and each of its bytes is this one.
@@ -48,31 +51,77 @@ fn swap_area(rt: HostRuntime) {
     check_changes(&rt, &mut area);
 }
 
-// One page comes in and another goes out, in the only room that there is. The page that stays is found.
-fn check_exchange(rt: &impl Abort, area: &mut SwapArea)
-    requires there { map.contains_key area.old.pages 7 ≡ true }
-    requires absent { map.get area.old.pages 2 ≡ None }
+// Three bytes of a page in a frame.
+fn check_frame(rt: &impl Abort, frame: &PatchedFrame, offset: usize, wanted: [u8; 3])
+    requires { offset + 3 ≤ 4096 }
 {
-    let mut buffer = [3; PAGE_BYTES];
-    area.exchange(7, 2, &mut buffer);
-    check_eq(rt, buffer == [7; PAGE_BYTES], true);
-    check_eq(rt, (area.contains(7), area.contains(2)), (false, true));
+    let mut bytes = [0; 3];
+    frame.read(offset, &mut bytes);
+    check_eq(rt, bytes, wanted);
+}
+
+// The page is there, and all of its bytes are zeros but this one.
+fn check_byte(rt: &impl Abort, area: &SwapArea, page: u32, offset: usize, byte: u8)
+    requires { offset < 4096 }
+{
+    let mut wanted = [0; PAGE_BYTES];
+    wanted[offset] = byte;
+    let mut buffer = [9; PAGE_BYTES];
+    check_eq(rt, area.get_into(page, &mut buffer), true);
+    check_eq(rt, buffer == wanted, true);
+}
+
+// A page of one byte goes out and a whole one comes into its frame, in the only room that there is, and the other way round. The
+// page that stays is found.
+fn check_trades(rt: &impl Abort, area: &mut SwapArea, frame: &mut PatchedFrame)
+    requires absent { map.get area.old.pages 2 ≡ None }
+    requires room { map.len (map.remove area.old.pages 7) < area.old.capacity }
+    ensures { frame.new.number ≡ frame.old.number }
+{
+    area.trade(7, 2, frame);
+    check_frame(rt, frame, 4, [7, 7, 7]);
+    check_byte(rt, area, 2, 5, 3);
     check_absent(rt, area, 7);
-    check_page(rt, area, 2, 3);
     check_page(rt, area, 8, 8);
     check_sizes(rt, area, 2, 2);
+    area.trade(2, 7, frame);
+    check_frame(rt, frame, 4, [0, 3, 0]);
+    check_page(rt, area, 7, 7);
+    check_absent(rt, area, 2);
 }
 
 #[test]
-fn exchanged_pages(rt: HostRuntime) {
+#[tactic(auto, using(vm_frames::proofs::NumberSets::set_members))]
+fn traded_pages(rt: HostRuntime) {
+    let mut machine = Machine::new(rt.alloc(), 1).expect(&rt, "memory");
     let mut area = SwapArea::new(rt.alloc(), 2).expect(&rt, "memory");
     area.put(7, &[7; PAGE_BYTES]);
     area.put(8, &[8; PAGE_BYTES]);
-    check_exchange(&rt, &mut area);
-    // The slot is given up, and the last one takes its place.
-    check_eq(&rt, area.drop_page(2), true);
-    check_page(&rt, &area, 8, 8);
-    check_sizes(&rt, &area, 1, 2);
+    let mut frame = PatchedFrame::new(machine.take().expect(&rt, "a free frame"));
+    frame.write(5, &[3]);
+    check_trades(&rt, &mut area, &mut frame);
+    machine.give(frame.release());
+    close_machine(&rt, machine, 1);
+}
+
+#[test]
+#[tactic(auto, using(vm_frames::proofs::NumberSets::set_members))]
+fn saved_pages(rt: HostRuntime) {
+    let mut machine = Machine::new(rt.alloc(), 1).expect(&rt, "memory");
+    let mut area = SwapArea::new(rt.alloc(), 1).expect(&rt, "memory");
+    let mut frame = PatchedFrame::new(machine.take().expect(&rt, "a free frame"));
+    frame.write(4095, &[6]);
+    let spare = area.save(1, frame);
+    check_byte(&rt, &area, 1, 4095, 6);
+    let mut frame = PatchedFrame::new(spare);
+    area.load(1, &mut frame);
+    check_frame(&rt, &frame, 4093, [0, 0, 6]);
+    check_absent(&rt, &area, 1);
+    // A page that is not there comes in as zeros, whatever was in the frame.
+    area.load(1, &mut frame);
+    check_frame(&rt, &frame, 4093, [0, 0, 0]);
+    machine.give(frame.release());
+    close_machine(&rt, machine, 1);
 }
 
 #[test]

@@ -23,15 +23,15 @@ stays_out out first second new = grind (set_members, new)
 pub give-requires : goal.give-requires
 give-requires g c =
     let there : 5 < length c.expect-map.result = search rules in
-    let first : c.expect-first.result.number ≡ c.remove_frame-first.result.number = kept _ 5 2 _ _ _ there (omega arith) (rw (c.put_frame-2.ensures, c.put_frame.ensures) at c.remove_frame-first.ensures.frame) in
-    rw (← first) (grind set_members)
+    let first : c.expect-first.result.number ≡ c.remove_frame-first.result.number = kept _ 5 2 _ _ _ there (omega arith) (rw (c.put_frame-2.ensures, c.put_frame.ensures, c.new-3.ensures, c.new-4.ensures) at c.remove_frame-first.ensures.frame) in
+    rw (c.into_frame.ensures, ← first) (grind set_members)
 
 pub give-requires-2 : goal.give-requires-2
 give-requires-2 g c =
     let there : 2 < length (set c.expect-map.result 5 (In c.expect-first.result)) = simp length-set (search rules) in
     let there_first : 5 < length c.expect-map.result = search rules in
-    let first : c.expect-first.result.number ≡ c.remove_frame-first.result.number = kept _ 5 2 _ _ _ there_first (omega arith) (rw (c.put_frame-2.ensures, c.put_frame.ensures) at c.remove_frame-first.ensures.frame) in
-    let second : c.expect-second.result.number ≡ c.remove_frame-second.result.number = kept _ 2 5 _ _ _ there (omega arith) (rw (c.remove_frame-first.ensures.absent, c.put_frame-2.ensures, c.put_frame.ensures) at c.remove_frame-second.ensures.frame) in
+    let first : c.expect-first.result.number ≡ c.remove_frame-first.result.number = kept _ 5 2 _ _ _ there_first (omega arith) (rw (c.put_frame-2.ensures, c.put_frame.ensures, c.new-3.ensures, c.new-4.ensures) at c.remove_frame-first.ensures.frame) in
+    let second : c.expect-second.result.number ≡ c.remove_frame-second.result.number = kept _ 2 5 _ _ _ there (omega arith) (rw (c.remove_frame-first.ensures.absent, c.put_frame-2.ensures, c.put_frame.ensures, c.new-3.ensures, c.new-4.ensures) at c.remove_frame-second.ensures.frame) in
     let taken : c.take-2.new.self.out ≡ insert (insert c.expect-machine.result.out c.expect-first.result.number) c.expect-second.result.number = search rules in
     let new : contains (insert c.expect-machine.result.out c.expect-first.result.number) c.expect-second.result.number ≡ false = search rules in
-    rw (c.give.ensures, ← second, ← first, taken) (stays_out _ _ _ new)
+    rw (c.give.ensures, c.into_frame-2.ensures, c.into_frame.ensures, ← second, ← first, taken) (stays_out _ _ _ new)

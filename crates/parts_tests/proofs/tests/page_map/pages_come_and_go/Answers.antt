@@ -26,6 +26,6 @@ is_out out number = grind set_members
 pub give-requires : goal.give-requires
 give-requires g c =
     let there : 2 < length c.expect-map.result = search rules in
-    let taken = rw (c.write.ensures, c.put_frame.ensures) at c.remove_frame-frame.ensures.frame in
+    let taken = rw (c.write.ensures, c.put_frame.ensures, c.new-in-Some.ensures) at c.remove_frame-frame.ensures.frame in
     let same : c.in-Some.frame.number ≡ c.remove_frame-frame.result.number = kept _ _ _ _ _ _ there taken in
-    rw (← same, c.in-Some.ensures.taken) (is_out _ _)
+    rw (c.release.ensures, ← same, c.in-Some.ensures.taken) (is_out _ _)

@@ -1,0 +1,193 @@
+ghost use Rattle.std.specs.Prelude.{◌≡◌, ℕ, true, ◌+◌, ◌<◌, ◌≤◌, ◌==◌, if◌then◌else◌, min, Some, None, IfSome, IfOk, OnOk, OnErr, get_or, option_copied, vec_len, vec_capacity};
+ghost use Rattle.std.specs.Bool.{OnTrue, OnFalse};
+ghost use Rattle.std.specs.FinMap as map;
+
+use std::alloc::{AllocError, Global};
+use std::marker::Model;
+use vm_patches::PatchedFrame;
+
+/// The bytes of a page of guest memory.
+pub const PAGE_BYTES: usize = 4096;
+
+/// The pages of a guest are numbered below this, so an area never holds more of them.
+pub const PAGE_LIMIT: u32 = 262144;
+
+// The place of one value.
+#[derive(Drop)]
+struct Slot<V> {
+    page: u32,
+    value: V,
+}
+
+// A value for each of some pages, found by one read of the index. Only `new` and `reserve` take memory.
+#[derive(Drop)]
+pub(crate) struct Table<V> {
+    // In no order.
+    slots: Vec<Slot<V>>,
+    // The slot of each page, up to the greatest page that ever had one.
+    index: Vec<Option<u32>>,
+}
+
+impl<V> Model for Table<V> {
+    ghost use Rattle.std.specs.Prelude.{◌≤◌, vec_capacity};
+    ghost use Rattle.std.specs.FinMap as map;
+    ghost use Rattle.vm_swap.specs.Table.{TableView, table_code};
+
+    ghost Value = { TableView V };
+
+    ghost coded = { table_code V.code };
+
+    ghost use Rattle.vm_swap.specs.Slots.{entries_of, IsKept};
+
+    ghost view = { λ t. record { values = map.from_entries (entries_of t.slots.items); room = vec_capacity t.slots } };
+
+    ghost invariant = { λ t. IsKept (entries_of t.slots.items) t.index.items (vec_capacity t.index) };
+}
+
+impl<V: Drop> Table<V> {
+    // An empty table with memory for so many values.
+    pub(crate) fn new(alloc: Global, room: usize) -> Result<Self, AllocError>
+        ensures values { IfOk result (λ table. table.values ≡ map.empty) }
+        ensures room { IfOk result (λ table. room ≤ table.room) }
+    {
+        Ok(Table {
+            slots: Vec::with_capacity(alloc, room)?,
+            index: Vec::with_capacity(alloc, PAGE_LIMIT as usize)?,
+        })
+    }
+
+    // How many pages have a value.
+    pub(crate) fn len(&self) -> u32
+        ensures { result ≡ map.len self.now.values }
+    {
+        self.slots.len() as u32
+    }
+
+    // Sees to memory for so many values altogether.
+    pub(crate) fn reserve(&mut self, room: usize) -> Result<(), AllocError>
+        ensures values { self.new.values ≡ self.old.values }
+        ensures room { OnOk result (room ≤ self.new.room) }
+        ensures kept { self.old.room ≤ self.new.room }
+        ensures refused { OnErr result (self.old.room < room) }
+    {
+        let more = room.saturating_sub(self.slots.len());
+        self.slots.reserve_exact(more)
+    }
+
+    // The value of a page.
+    pub(crate) fn get(&self, page: u32) -> Option<&V>
+        ensures { option_copied result ≡ map.get self.now.values page }
+    {
+        match slot_of(&self.index, page) {
+            Some(slot) => Some(&self.slots[slot].value),
+            None => None,
+        }
+    }
+
+    // Gives another value to a page that has one, and answers whether it has one.
+    pub(crate) fn set(&mut self, page: u32, value: V) -> bool
+        ensures found { result ≡ map.contains_key self.old.values page }
+        ensures written { OnTrue result (self.new ≡ record self.old { values = map.insert self.old.values page value }) }
+        ensures absent { OnFalse result (self.new ≡ self.old) }
+    {
+        match slot_of(&self.index, page) {
+            Some(slot) => {
+                self.slots[slot] = Slot { page, value };
+                true
+            }
+            None => false,
+        }
+    }
+
+    // Gives a value to a page that has none.
+    pub(crate) fn insert(&mut self, page: u32, value: V)
+        requires in_range { page < PAGE_LIMIT }
+        requires absent { map.get self.old.values page ≡ None }
+        requires room { min (map.len self.old.values + 1) PAGE_LIMIT ≤ self.old.room }
+        ensures { self.new ≡ record self.old { values = map.insert self.old.values page value } }
+    {
+        let slot = self.slots.len() as u32;
+        self.slots.push_reserved(Slot { page, value });
+        note_slot(&mut self.index, page, slot);
+    }
+
+    // Takes the value of a page.
+    pub(crate) fn remove(&mut self, page: u32) -> Option<V>
+        ensures taken { result ≡ map.get self.old.values page }
+        ensures removed { self.new ≡ record self.old { values = map.remove self.old.values page } }
+    {
+        match slot_of(&self.index, page) {
+            Some(slot) => {
+                // The last slot takes the place of the page's, which may be the last itself.
+                let moved = self.slots[self.slots.len() - 1].page;
+                let Slot { page: _, value } = self.slots.swap_remove(slot);
+                self.index[moved as usize] = Some(slot as u32);
+                self.index[page as usize] = None;
+                Some(value)
+            }
+            None => None,
+        }
+    }
+}
+
+// Gives the slot of a page to another one that has none, and exchanges the bytes in it with those of the frame. It answers whether
+// the page had one; else nothing changes.
+pub(crate) fn trade_bytes(
+    table: &mut Table<[u8; PAGE_BYTES]>,
+    page: u32,
+    other: u32,
+    frame: &mut PatchedFrame,
+) -> bool
+    requires in_range { other < PAGE_LIMIT }
+    requires absent { map.get table.old.values other ≡ None }
+    ensures found { result ≡ map.contains_key table.old.values page }
+    ensures traded { OnTrue result (table.new ≡ record table.old { values = map.insert (map.remove table.old.values page) other frame.old.bytes }) }
+    ensures frame { IfSome (map.get table.old.values page) (λ bytes. frame.new ≡ record frame.old { bytes = bytes }) }
+    ensures same { OnFalse result (table.new ≡ table.old) }
+    ensures same_frame { OnFalse result (frame.new ≡ frame.old) }
+{
+    match slot_of(&table.index, page) {
+        Some(slot) => {
+            rewrite(&mut table.slots[slot], other, frame);
+            table.index[page as usize] = None;
+            note_slot(&mut table.index, other, slot as u32);
+            true
+        }
+        None => false,
+    }
+}
+
+// Gives a slot to a page whose bytes are in the frame, which gets those that were in the slot.
+fn rewrite(slot: &mut Slot<[u8; PAGE_BYTES]>, page: u32, frame: &mut PatchedFrame)
+    ensures slot { slot.new ≡ record { page = page; value = frame.old.bytes } }
+    ensures frame { frame.new ≡ record frame.old { bytes = slot.old.value } }
+{
+    slot.page = page;
+    frame.exchange(&mut slot.value);
+}
+
+// The slot in which the index finds a page.
+fn slot_of(index: &[Option<u32>], page: u32) -> Option<usize>
+    ensures { result ≡ get_or index.now page None }
+{
+    match index.get(page as usize) {
+        Some(Some(slot)) => Some(*slot as usize),
+        _ => None,
+    }
+}
+
+// Lets the index find a page in a slot, in the room that was reserved.
+fn note_slot(index: &mut Vec<Option<u32>>, page: u32, slot: u32)
+    requires in_range { page < PAGE_LIMIT }
+    requires room { PAGE_LIMIT ≤ vec_capacity index.old }
+    requires within { vec_len index.old ≤ PAGE_LIMIT }
+    ensures noted { (q : ℕ) → get_or index.new.items q None ≡ (if q == page then Some slot else get_or index.old.items q None) }
+    ensures room { PAGE_LIMIT ≤ vec_capacity index.new }
+    ensures within { vec_len index.new ≤ PAGE_LIMIT }
+{
+    let at = page as usize;
+    if index.len() <= at {
+        index.resize(at + 1, None).unwrap();
+    }
+    index[at] = Some(slot);
+}
