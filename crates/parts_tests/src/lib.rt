@@ -1,4 +1,4 @@
-//! The tests of the small crates, by their public calls: of sets of pages, frames, page maps, swap areas,
+//! The tests of the small crates, by their public calls: of sets of pages, frames, pages of few bytes, page maps, swap areas,
 //! traces, samplers, prices, books, command lines and JSON.
 //!
 //! They are a crate of their own, so that none of those is proved once more with its tests.
