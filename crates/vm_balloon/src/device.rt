@@ -69,18 +69,18 @@ pub struct Device {
     // Page numbers while they are served.
     numbers: Vec<u32>,
     early: PageSet,
-    // The pages used early since the last service, each once.
-    early_list: Vec<u32>,
     inflates: PageQueue,
     deflates: PageQueue,
-    // From here on stands most of what an epoch and a service look at where no page is posted.
+    // The pages used early since the last service, each once. From here on stands most of what an epoch and a service look at where
+    // no page is posted.
+    early_list: Vec<u32>,
+    // The last service.
+    served: Served,
     reports: Reports,
     size: u32,
     buffers: u32,
     num_pages: u32,
     actual: u32,
-    // The last service.
-    served: Served,
     balloon: PageSet,
 }
 

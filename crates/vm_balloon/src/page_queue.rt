@@ -15,8 +15,9 @@ use vm_pages::PageSet;
 #[derive(Drop)]
 pub(crate) struct PageQueue {
     size: u32,
-    buffers: Buffers,
     named: PageSet,
+    // At the end, so that their count stands beside what a device has behind the queue.
+    buffers: Buffers,
 }
 
 impl Model for PageQueue {

@@ -31,9 +31,9 @@ use vm_frames::{Frame, Machine, PAGE_BYTES};
 ///
 /// Only [`GuestRoom::new`], [`Guest::start`], [`Guest::prepare`] and [`Guest::grow_swap`] take memory.
 pub struct Guest {
-    parts: GuestParts,
     // There is room for the reads of an epoch.
     prepared: bool,
+    parts: GuestParts,
 }
 
 impl Model for Guest {

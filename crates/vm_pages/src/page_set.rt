@@ -19,9 +19,10 @@ const BLOCK_PAGES: usize = 256;
 /// pages that they list, and all other calls take constant time.
 #[derive(Drop)]
 pub struct PageSet {
+    // How many pages are in the set, in front, since mostly no more is looked at.
+    len: u32,
     marks: Vec<bool>,
     counts: Vec<u32>,
-    len: u32,
 }
 
 impl Model for PageSet {
