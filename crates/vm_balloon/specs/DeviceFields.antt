@@ -1,5 +1,5 @@
 -- How a device's fields keep its state.
-use Rattle.std.specs.Prelude.{ℕ, ◌≡◌, ◌+◌, ◌*◌, ◌<◌, ◌≤◌, ◌==◌, Bool, true, List, All, length}
+use Rattle.std.specs.Prelude.{ℕ, ◌≡◌, ◌+◌, ◌*◌, ◌<◌, ◌≤◌, ◌==◌, Bool, true, false, List, [], All, length}
 use Rattle.std.specs.List.{list_any}
 use Rattle.std.specs.Vec.{vec_capacity}
 use Rattle.vm_pages.specs.Pages.{contains, count}
@@ -38,6 +38,8 @@ pub record IsDevice (d : Inside) : Type 0 where
   pub room_early : d.size ≤ vec_capacity d.early_list
   pub few_buffers : d.buffers ≤ 256
   pub posted : length d.inflates.buffers + length d.deflates.buffers + length d.reports.list ≤ d.buffers
+  -- where the device says so, no page buffer is posted
+  pub none_posted : d.has_pages ≡ false → (d.inflates.buffers ≡ []) × (d.deflates.buffers ≡ [])
   pub room_inflates : d.buffers ≤ d.inflates.room
   pub room_deflates : d.buffers ≤ d.deflates.room
   pub room_reports : d.buffers ≤ d.reports.room

@@ -1,5 +1,4 @@
 ghost use Rattle.std.specs.Prelude.{◌≡◌, ◌+◌, ◌*◌, ◌<◌, ◌≤◌, ◌↔◌, ◌++◌, [], Err, All, true, false, IfOk, OnOk, OnErr, length, take, vec_capacity};
-ghost use Rattle.std.specs.Bool.{OnTrue};
 ghost use Rattle.std.specs.Borrow.{sem};
 ghost use Rattle.std.specs.Int.{w32, to_le_bytes};
 ghost use Rattle.vm_pages.specs.Pages.{no_pages, contains, count, members, insert_all, remove_all};
@@ -79,6 +78,8 @@ pub struct Device {
     reports: Reports,
     size: u32,
     buffers: u32,
+    // Whether a page buffer was posted since the last service. Where none was, the next one doesn't look at their queues.
+    has_pages: bool,
     num_pages: u32,
     actual: u32,
     balloon: PageSet,
@@ -123,6 +124,7 @@ impl Device {
             inflates,
             deflates,
             reports,
+            has_pages: false,
             num_pages: 0,
             actual: 0,
             numbers,
@@ -148,8 +150,14 @@ impl Device {
             return Err(PostError::Full);
         }
         match queue {
-            Queue::Inflate => self.inflates.push(bytes),
-            Queue::Deflate => self.deflates.push(bytes),
+            Queue::Inflate => {
+                self.inflates.push(bytes);
+                self.has_pages = true;
+            }
+            Queue::Deflate => {
+                self.deflates.push(bytes);
+                self.has_pages = true;
+            }
             Queue::Statistics => self.reports.push(bytes),
         }
         Ok(())
@@ -281,44 +289,48 @@ impl Device {
         ensures deflated_pages { All (λ page. page < self.old.size) result.now.deflated.items }
     {
         serve_pages(
-            &self.inflates,
-            &self.deflates,
+            self.has_pages,
+            &mut self.inflates,
+            &mut self.deflates,
             &mut self.balloon,
             &mut self.early,
             &mut self.numbers,
             &mut self.served,
         );
+        self.has_pages = false;
         clear_listed(&mut self.early_list, &mut self.early);
-        self.inflates.clear();
-        self.deflates.clear();
         self.reports.serve();
         &self.served
     }
 }
 
-// Serves the page buffers: all inflate buffers, then all deflate buffers.
+// Serves the page buffers and takes them out: all inflate buffers, then all deflate buffers.
 #[tactic(auto, unfolding(crate::specs::Service::distinct))]
 fn serve_pages(
-    inflates: &PageQueue,
-    deflates: &PageQueue,
+    has_pages: bool,
+    inflates: &mut PageQueue,
+    deflates: &mut PageQueue,
     balloon: &mut PageSet,
     early: &mut PageSet,
     numbers: &mut Vec<u32>,
     served: &mut Served,
 )
-    requires size { length balloon.old ≡ inflates.now.size }
+    requires none { has_pages ≡ false → (inflates.old.buffers ≡ []) × (deflates.old.buffers ≡ []) }
+    requires size { length balloon.old ≡ inflates.old.size }
     requires same_pages { length early.old ≡ length balloon.old }
-    requires few_inflates { length inflates.now.buffers ≤ 256 }
-    requires few_deflates { length deflates.now.buffers ≤ 256 }
-    requires room_inflates { HasRoomFor numbers.old inflates.now.buffers }
-    requires room_deflates { HasRoomFor numbers.old deflates.now.buffers }
-    requires room_inflated { HasRoomFor served.old.inflated inflates.now.buffers }
-    requires room_deflated { HasRoomFor served.old.deflated deflates.now.buffers }
-    ensures inflated { served.new.inflated.items ≡ inflated_by balloon.old (numbers_in inflates.now.buffers) }
-    ensures deflated { served.new.deflated.items ≡ deflated_by (insert_all balloon.old served.new.inflated.items) early.old (numbers_in deflates.now.buffers) }
+    requires few_inflates { length inflates.old.buffers ≤ 256 }
+    requires few_deflates { length deflates.old.buffers ≤ 256 }
+    requires room_inflates { HasRoomFor numbers.old inflates.old.buffers }
+    requires room_deflates { HasRoomFor numbers.old deflates.old.buffers }
+    requires room_inflated { HasRoomFor served.old.inflated inflates.old.buffers }
+    requires room_deflated { HasRoomFor served.old.deflated deflates.old.buffers }
+    ensures inflated { served.new.inflated.items ≡ inflated_by balloon.old (numbers_in inflates.old.buffers) }
+    ensures deflated { served.new.deflated.items ≡ deflated_by (insert_all balloon.old served.new.inflated.items) early.old (numbers_in deflates.old.buffers) }
     ensures inflated_pages { All (λ page. page < length balloon.old) served.new.inflated.items }
     ensures deflated_pages { All (λ page. page < length balloon.old) served.new.deflated.items }
-    ensures bad { served.new.bad ≡ refused inflates.now.buffers served.new.inflated.items + refused deflates.now.buffers served.new.deflated.items }
+    ensures bad { served.new.bad ≡ refused inflates.old.buffers served.new.inflated.items + refused deflates.old.buffers served.new.deflated.items }
+    ensures inflates { inflates.new ≡ record inflates.old { buffers = [] } }
+    ensures deflates { deflates.new ≡ record deflates.old { buffers = [] } }
     ensures balloon { balloon.new ≡ remove_all (insert_all balloon.old served.new.inflated.items) served.new.deflated.items }
     ensures early { early.new ≡ remove_all early.old served.new.deflated.items }
     ensures same_balloon_size { length balloon.new ≡ length balloon.old }
@@ -327,7 +339,7 @@ fn serve_pages(
     ensures inflated_room { KeepsRoom served.old.inflated served.new.inflated }
     ensures deflated_room { KeepsRoom served.old.deflated served.new.deflated }
 {
-    if none_posted(inflates, deflates) {
+    if !has_pages {
         serve_none(served);
         return;
     }
@@ -339,6 +351,8 @@ fn serve_pages(
     deflate(numbers, size, balloon, early, &mut served.deflated);
     let refused_deflates = (numbers.len() - served.deflated.len()) as u32;
     served.bad = ragged_inflates + refused_inflates + (ragged_deflates + refused_deflates);
+    inflates.clear();
+    deflates.clear();
 }
 
 // The balloon, the pages used early, and room for a list of all pages.
@@ -371,13 +385,6 @@ fn queues(
     let inflates = PageQueue::new(alloc, size, room)?;
     let deflates = PageQueue::new(alloc, size, room)?;
     Ok((inflates, deflates, reports))
-}
-
-// Whether no page buffer is posted.
-fn none_posted(inflates: &PageQueue, deflates: &PageQueue) -> bool
-    ensures { OnTrue result ((inflates.now.buffers ≡ []) × (deflates.now.buffers ≡ [])) }
-{
-    inflates.buffers().is_empty() && deflates.buffers().is_empty()
 }
 
 // What a service did that found no page buffer.

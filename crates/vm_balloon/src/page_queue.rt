@@ -15,9 +15,8 @@ use vm_pages::PageSet;
 #[derive(Drop)]
 pub(crate) struct PageQueue {
     size: u32,
-    named: PageSet,
-    // At the end, so that their count stands beside what a device has behind the queue.
     buffers: Buffers,
+    named: PageSet,
 }
 
 impl Model for PageQueue {

@@ -1,3 +1,4 @@
 pub mod Writes
 mod Zeros
 mod Contents
+mod LastBytes

@@ -5,8 +5,10 @@
 //! patch has room for. Then its bytes stand in the frame.
 #![tactic(auto)]
 
+mod law;
 pub mod patch;
 pub mod patched_frame;
 
+pub use law::law_last_byte;
 pub use patch::{ByteWrite, PATCH_BYTES, Patch};
 pub use patched_frame::PatchedFrame;
