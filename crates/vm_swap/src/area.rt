@@ -172,7 +172,7 @@ impl SwapArea {
         if self.few.set(page, Patch::new()) {
             true
         } else {
-            self.whole.set(page, ZEROS)
+            zero_whole(&mut self.whole, page)
         }
     }
 
@@ -182,8 +182,8 @@ impl SwapArea {
         ensures dropped { OnTrue result (self.new ≡ record self.old { pages = map.remove self.old.pages page }) }
         ensures absent { OnFalse result (self.new ≡ self.old) }
     {
-        let was_whole = self.whole.remove(page).is_some();
-        let was_few = self.few.remove(page).is_some();
+        let was_whole = self.whole.discard(page);
+        let was_few = self.few.discard(page);
         was_whole || was_few
     }
 
@@ -264,7 +264,17 @@ fn bring_in(
         Some(bytes) => frame.set_bytes(bytes),
         None => frame.set_patch(patch.unwrap_or(Patch::new())),
     }
-    whole.remove(page);
+    whole.discard(page);
+}
+
+// Writes zeros over a page of which all bytes are kept, and answers whether it is there. Only then are zeros handed over.
+#[tactic(auto, unfolding(vm_patches::specs::Patches::zero_bytes))]
+fn zero_whole(whole: &mut Table<[u8; PAGE_BYTES]>, page: u32) -> bool
+    ensures found { result ≡ map.contains_key whole.old.values page }
+    ensures zeroed { OnTrue result (whole.new ≡ record whole.old { values = map.insert whole.old.values page zero_bytes }) }
+    ensures absent { OnFalse result (whole.new ≡ whole.old) }
+{
+    whole.get(page).is_some() && whole.set(page, ZEROS)
 }
 
 // Copies the bytes of a page, and answers whether it is in one of the two.

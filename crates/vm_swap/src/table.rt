@@ -111,6 +111,26 @@ impl<V: Drop> Table<V> {
         note_slot(&mut self.index, page, slot);
     }
 
+    // Lets the value of a page go, and answers whether it had one. Where it had none, nothing of a value's size is copied.
+    pub(crate) fn discard(&mut self, page: u32) -> bool
+        ensures found { result ≡ map.contains_key self.old.values page }
+        ensures removed { self.new ≡ record self.old { values = map.remove self.old.values page } }
+    {
+        let found = self.get(page).is_some();
+        if found {
+            self.let_go(page);
+        }
+        found
+    }
+
+    // Lets the value of a page go. Not inlined, so that its callers, which mostly find none, hold no room for one on their stack.
+    #[inline(never)]
+    fn let_go(&mut self, page: u32)
+        ensures { self.new ≡ record self.old { values = map.remove self.old.values page } }
+    {
+        self.remove(page);
+    }
+
     // Takes the value of a page.
     pub(crate) fn remove(&mut self, page: u32) -> Option<V>
         ensures taken { result ≡ map.get self.old.values page }
