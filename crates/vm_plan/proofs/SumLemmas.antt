@@ -7,11 +7,10 @@ use Rattle.std.proofs.lemmas.Option.{slice_get_cases}
 use Rattle.vm_plan.specs.declared.row.PlanRow.{PlanRow}
 use Rattle.vm_plan.specs.Row.{Row, change_at}
 use Rattle.vm_plan.specs.PlanRow.{row_of, rows_of}
-use Rattle.vm_plan.specs.Revocation.{revoked_row, IsRevocable}
 use Rattle.vm_plan.specs.Grants.{granted_row, total_demand}
 
 -- a sum changes as its row does
-sum-change : (number : Row → ℕ) (change : Row → Row) (less more : ℕ) (P : Row → Type 0) → ((row : Row) → P row → number (change row) + less ≡ number row + more)
+pub sum-change : (number : Row → ℕ) (change : Row → Row) (less more : ℕ) (P : Row → Type 0) → ((row : Row) → P row → number (change row) + less ≡ number row + more)
     → (rows : List Row) (k : ℕ) → IsSomeAnd (slice_get rows k) P → sum_by number (change_at change rows k) + less ≡ sum_by number rows + more
 sum-change number change less more P changes rows k h =
     ⊎_elim
@@ -33,16 +32,6 @@ demand-granted rows k h =
 -- what guests are meant to hold together
 abbrev pub total_target : List Row → ℕ
 total_target rows = sum_by (λ row. row.target) rows
-
-pub target-revoked : (rows : List Row) (k : ℕ) → IsRevocable rows k → total_target (change_at revoked_row rows k) + 1 ≡ total_target rows
-target-revoked rows k h =
-    let less = sum-change (λ (row : Row). row.target) revoked_row 1 0 (λ (row : Row). row.min < row.target) (λ row above. omega arith) rows k h in
-    omega (arith, less)
-
-pub target-granted : (rows : List Row) (k : ℕ) → IsSomeAnd (slice_get rows k) (λ row. 0 < row.demand) → total_target (change_at granted_row rows k) ≡ total_target rows + 1
-target-granted rows k h =
-    let more = sum-change (λ (row : Row). row.target) granted_row 0 1 (λ (row : Row). 0 < row.demand) (λ row wants. omega arith) rows k h in
-    omega (arith, more)
 
 targets_within : (rows : List PlanRow) → All (λ row. row.target ≤ 262144) (rows_of rows)
 targets_within [] k d l = absurd (omega arith)

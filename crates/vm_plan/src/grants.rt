@@ -1,16 +1,18 @@
 //! Which guests get more pages.
-ghost use Rattle.std.specs.Prelude.{◌≡◌, ◌<◌, ◌≤◌, ◌↔◌, ℕ, All, IfOk, IfErr, IfSome, IfNone, IsNone, IsTrue, length, slice_get, slice_set};
+ghost use Rattle.std.specs.Prelude.{◌≡◌, ◌+◌, ◌<◌, ◌≤◌, ◌↔◌, ℕ, All, IfOk, IfErr, IfSome, IfNone, IsNone, IsTrue, length, slice_get, slice_set};
 ghost use Rattle.std.specs.List.{list_any};
 ghost use Rattle.std.specs.Option.{option_map};
 ghost use Rattle.vm_tax.specs.Ratio.{hundredths};
 ghost use Rattle.vm_tax.specs.Prices.{HaveOneTax};
 ghost use Rattle.vm_plan.specs.Moves.{EachMove};
-ghost use Rattle.vm_plan.specs.Grants.{granted_row, frames_for, pool_after, CanGrow, LetsGrow, Outbids, MayGrant, IsNextGrant, IsGrantable, IsGrantList, grant_list};
+ghost use Rattle.vm_plan.specs.Runs.{frames_for_all, grown_row};
+ghost use Rattle.vm_plan.specs.Grants.{pool_after, CanGrow, LetsGrow, Outbids, MayGrant, IsNextGrant, IsGrantable, IsGrantList, grant_list};
 ghost use Rattle.vm_plan.specs.PlanRow.{row_of, rows_of, pool_of};
 ghost use Rattle.vm_plan.specs.Row.{change_at, wants_to_grow};
 ghost use Rattle.vm_plan.specs.Track.{IsTracked, AreRivals, AreForState};
 ghost use Rattle.vm_plan.specs.declared.tracking.Kind.TheVariants.{Revocable, Wanting};
 
+use crate::grant_runs::run_length;
 use crate::plan::Plan;
 use crate::row::PlanRow;
 use crate::state::State;
@@ -19,18 +21,19 @@ use crate::tracking::{copy_of, track_rivals, track_wanting};
 use std::alloc::{AllocError, Global};
 use vm_tax::{Greatest, Price, Winners, cmp_price};
 
-/// Adds one page to a guest's target, and says how many free frames that takes.
-fn add_page(row: &mut PlanRow) -> u32
-    requires wants { 0 < row.old.demand }
-    requires below_cap { row.old.target < row.old.cap }
-    ensures row { row_of row.new ≡ granted_row (row_of row.old) }
-    ensures frames { result ≡ frames_for (row_of row.old) }
+/// Adds so many pages to a guest's target, and says how many free frames that takes.
+fn add_pages(row: &mut PlanRow, count: u32) -> u32
+    requires demand { count ≤ row.old.demand }
+    requires room { row.old.target + count ≤ row.old.cap }
+    ensures row { row_of row.new ≡ grown_row count (row_of row.old) }
+    ensures frames { result ≡ frames_for_all count (row_of row.old) }
+    ensures held { row.new.target ≤ row.new.held }
 {
-    let frames = if row.held == row.target { 1 } else { 0 };
-    row.target += 1;
-    row.held += frames;
-    row.demand -= 1;
-    frames
+    row.target += count;
+    row.demand -= u64::from(count);
+    let held = row.held;
+    row.held = held.max(row.target);
+    row.held - held
 }
 
 /// Replaces the price of one guest among the rivals, where they are tracked.
@@ -44,28 +47,31 @@ fn set_rival(rivals: &mut Option<Winners>, position: u32, price: Option<Price>)
     }
 }
 
-/// Gives a guest one page more, and says how many free frames that takes.
-fn give_page(
+/// Gives a guest so many pages more, and says how many free frames that takes.
+fn give_pages(
     tax: u32,
     rows: &mut [PlanRow],
     rivals: &mut Option<Winners>,
     wanting: &mut Greatest,
     position: u32,
+    count: u32,
 ) -> u32
     requires tax { tax ≤ 9999 }
     requires within { position < length rows.old }
-    requires wants { IfSome (slice_get rows.old position) (λ row. 0 < row.demand) }
-    requires below_cap { IfSome (slice_get rows.old position) (λ row. row.target < row.cap) }
+    requires demand { IfSome (slice_get rows.old position) (λ row. count ≤ row.demand) }
+    requires room { IfSome (slice_get rows.old position) (λ row. row.target + count ≤ row.cap) }
+    requires held { All (λ row. row.target ≤ row.held) rows.old }
     requires rivals { AreRivals tax rivals.old (rows_of rows.old) }
     requires wanting { IsTracked Wanting tax wanting.old (rows_of rows.old) }
-    ensures given { rows_of rows.new ≡ change_at granted_row (rows_of rows.old) position }
-    ensures frames { IfSome (slice_get rows.old position) (λ row. result ≡ frames_for (row_of row)) }
+    ensures given { rows_of rows.new ≡ change_at (grown_row count) (rows_of rows.old) position }
+    ensures frames { IfSome (slice_get rows.old position) (λ row. result ≡ frames_for_all count (row_of row)) }
+    ensures held { All (λ row. row.target ≤ row.held) rows.new }
     ensures rivals { AreRivals tax rivals.new (rows_of rows.new) }
     ensures none { IsNone rivals.new ↔ IsNone rivals.old }
     ensures wanting { IsTracked Wanting tax wanting.new (rows_of rows.new) }
 {
     let row = &mut rows[position as usize];
-    let frames = add_page(row);
+    let frames = add_pages(row, count);
     set_rival(rivals, position, row.revocable_price(tax));
     wanting.set(position, row.wanting_price(tax));
     frames
@@ -177,8 +183,8 @@ fn next_grant(
 ///
 /// `free` is the number of free frames, and `tax` is in hundredths of a percent. Each entry is the guest of the greatest price
 /// among those that have demand and are below their cap, where the conditions of the state hold for it; at the first for which
-/// they don't hold, the plan ends. In Low it is empty. An entry costs a logarithm of the number of rows. The only error is a
-/// want of memory, where enough frames are free for the state and some guest has demand and is below its cap.
+/// they don't hold, the plan ends. In Low it is empty. An entry costs a logarithm of the number of rows, and in High a guest that gets
+/// many in a row gets them at once. The only error is a want of memory, where enough frames are free for the state and some guest has demand and is below its cap.
 pub fn grant(
     alloc: Global,
     state: State,
@@ -211,8 +217,19 @@ pub fn grant(
     let mut left = free;
     let mut plan = Plan::new(alloc);
     while let Some(position) = next_grant(state, left, thresholds, tax, &after, &rivals, &wanting) {
-        left -= give_page(tax, &mut after, &mut rivals, &mut wanting, position);
-        plan.push(position)?;
+        let before = plan.count_at_end(position);
+        let count = run_length(
+            state,
+            left,
+            thresholds,
+            tax,
+            &after,
+            &mut wanting,
+            position,
+            before,
+        );
+        left -= give_pages(tax, &mut after, &mut rivals, &mut wanting, position, count);
+        plan.push(position, count)?;
     }
     Ok(plan)
 }

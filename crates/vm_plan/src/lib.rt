@@ -5,12 +5,14 @@
 //! (section 6.3). Everything is decided from plain numbers: a row for each guest, thresholds, and the number of free frames.
 #![tactic(auto)]
 
+mod grant_runs;
 mod grants;
 mod laws;
 mod moves;
 mod paging;
 mod plan;
 mod revocation;
+mod revocation_runs;
 mod row;
 mod scan;
 mod state;

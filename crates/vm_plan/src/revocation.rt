@@ -1,14 +1,16 @@
 //! Which guests have to give pages up.
-ghost use Rattle.std.specs.Prelude.{◌≡◌, ℕ, ◌<◌, ◌≤◌, All, IfOk, IfErr, IfSome, length, slice_get};
+ghost use Rattle.std.specs.Prelude.{◌≡◌, ◌+◌, ℕ, ◌<◌, ◌≤◌, All, IfOk, IfErr, IfSome, length, slice_get};
 ghost use Rattle.vm_tax.specs.Ratio.{hundredths};
 ghost use Rattle.vm_plan.specs.Moves.{EachMove};
 ghost use Rattle.vm_plan.specs.PlanRow.{rows_of};
-ghost use Rattle.vm_plan.specs.Revocation.{shortfall_of, revoked_row, rows_after, IsRevocable, IsRevocationList, revocation_list};
+ghost use Rattle.vm_plan.specs.Runs.{lowered_row};
+ghost use Rattle.vm_plan.specs.Revocation.{shortfall_of, rows_after, IsRevocable, IsRevocationList, revocation_list};
 ghost use Rattle.vm_plan.specs.Row.{change_at};
 ghost use Rattle.vm_plan.specs.Track.{IsTracked};
 ghost use Rattle.vm_plan.specs.declared.tracking.Kind.TheVariants.{Revocable};
 
 use crate::plan::Plan;
+use crate::revocation_runs::fall_length;
 use crate::row::PlanRow;
 use crate::state::State;
 use crate::thresholds::Thresholds;
@@ -34,17 +36,17 @@ fn shortfall(state: State, free: u32, thresholds: &Thresholds, rows: &[PlanRow])
         .saturating_sub(coming)
 }
 
-/// Takes one page from a guest above its minimum.
-fn take_page(tax: u32, rows: &mut [PlanRow], winners: &mut Winners, position: u32)
+/// Takes so many pages from a guest that is as many above its minimum.
+fn take_pages(tax: u32, rows: &mut [PlanRow], winners: &mut Winners, position: u32, count: u32)
     requires tax { tax ≤ 9999 }
     requires within { position < length rows.old }
-    requires above { IfSome (slice_get rows.old position) (λ row. row.min < row.target) }
+    requires above { IfSome (slice_get rows.old position) (λ row. row.min + count ≤ row.target) }
     requires tracked { IsTracked Revocable tax winners.old (rows_of rows.old) }
-    ensures taken { rows_of rows.new ≡ change_at revoked_row (rows_of rows.old) position }
+    ensures taken { rows_of rows.new ≡ change_at (lowered_row count) (rows_of rows.old) position }
     ensures tracked { IsTracked Revocable tax winners.new (rows_of rows.new) }
 {
     let row = &mut rows[position as usize];
-    row.target -= 1;
+    row.target -= count;
     winners.set(position, row.revocable_price(tax));
 }
 
@@ -52,8 +54,8 @@ fn take_page(tax: u32, rows: &mut [PlanRow], winners: &mut Winners, position: u3
 /// and 5.2).
 ///
 /// `tax` is in hundredths of a percent. The plan has as many entries as are wanted, fewer only where no guest is above its
-/// minimum any more. An entry costs a logarithm of the number of rows, and where none is wanted there is no cost at all. The only
-/// error is a want of memory, where there is a row and a page is wanted.
+/// minimum any more. An entry costs a logarithm of the number of rows, and a guest that loses many in a row loses them at once; where
+/// none is wanted there is no cost at all. The only error is a want of memory, where there is a row and a page is wanted.
 pub fn revocations(
     alloc: Global,
     tax: u32,
@@ -79,12 +81,16 @@ pub fn revocations(
     let mut after = copy_of(alloc, rows)?;
     let mut winners = track_revocable(alloc, tax, rows)?;
     let mut plan = Plan::new(alloc);
-    for _turn in 0..wanted {
+    let mut left = wanted;
+    while left > 0 {
         let Some(position) = winners.least() else {
             break;
         };
-        take_page(tax, &mut after, &mut winners, position);
-        plan.push(position)?;
+        let before = plan.count_at_end(position);
+        let count = fall_length(left, tax, &after, &mut winners, position, before);
+        take_pages(tax, &mut after, &mut winners, position, count);
+        plan.push(position, count)?;
+        left -= u64::from(count);
     }
     Ok(plan)
 }

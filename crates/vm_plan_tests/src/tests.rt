@@ -301,3 +301,44 @@ fn equal_positions_are_one_stretch(rt: HostRuntime) -> Result<(), Fail> {
     assert_eq!(rt; Plan::new(rt.alloc()).stretches(), [].as_slice());
     Ok(())
 }
+
+/// A guest of ten pages that may have sixty, and wants fifty.
+fn growing(shares: u32) -> PlanRow
+    requires some_shares { 1 ≤ shares }
+    requires few_shares { shares ≤ 1000000 }
+    ensures target { result.target ≡ 10 }
+    ensures held { result.held ≡ 10 }
+{
+    let mut row = wanting(shares, 50);
+    row.cap = 60;
+    row
+}
+
+#[test]
+fn a_guest_grows_until_another_comes_first(rt: HostRuntime) -> Result<(), Fail> {
+    // 200 shares for 20 pages are as many for each as 100 for 10, and 200 for 22 as 100 for 11.
+    let lower = [growing(200), growing(100)];
+    let turns = [0, 0, 0, 0, 0, 0, 0, 0, 0, 0, 0, 1, 0, 0, 1, 0];
+    check_grant(&rt, rt.alloc(), State::High, 20, &lower, &turns)?;
+    let upper = [growing(100), growing(200)];
+    let turns = [1, 1, 1, 1, 1, 1, 1, 1, 1, 1, 0, 1, 1, 0, 1, 1];
+    check_grant(&rt, rt.alloc(), State::High, 20, &upper, &turns)?;
+    Ok(())
+}
+
+#[test]
+fn a_guest_is_taken_from_until_another_comes_first(rt: HostRuntime) -> Result<(), Fail> {
+    // 100 shares for 20 pages are as many for each as 200 for 40, and 100 for 19 as 200 for 38.
+    let rows = [row(100, 40, 2, ALL_ACTIVE), row(200, 40, 2, ALL_ACTIVE)];
+    let plan = revocations(rt.alloc(), 7500, 25, &rows)?;
+    let lengths: Vec<(u32, u32)> = plan
+        .stretches()
+        .iter()
+        .map(|stretch| (stretch.position, stretch.count))
+        .collect(rt.alloc())?;
+    assert_eq!(rt;
+        lengths.as_slice(),
+        [(0, 21), (1, 2), (0, 1), (1, 1)].as_slice()
+    );
+    Ok(())
+}

@@ -1,0 +1,61 @@
+-- Grants to one guest that follow each other, and revocations from one: for private contracts alone.
+use Rattle.std.specs.Prelude.{ℕ, List, ◌+◌, ◌-◌, ◌≤◌, IsSomeAnd, min, max, replicate, slice_get}
+use Rattle.vm_tax.specs.Ratio.{Ratio, Tax, IsAbove, IsBelow}
+use Rattle.vm_tax.specs.Offers.{IsLeast}
+use Rattle.vm_plan.specs.declared.state.State.{State}
+use Rattle.vm_plan.specs.declared.thresholds.Thresholds.{Thresholds}
+use Rattle.vm_plan.specs.Row.{Row, ratio_with, revocable_ratios}
+use Rattle.vm_plan.specs.Revocation.{rows_after}
+use Rattle.vm_plan.specs.Moves.{EachMove}
+use Rattle.vm_plan.specs.Grants.{Pool, IsNextGrant, pool_after}
+
+-- ---- grants
+
+-- a guest that got so many pages, where it held its target
+abbrev pub grown_row : ℕ → Row → Row
+grown_row count row = record row { target = row.target + count; held = max row.held (row.target + count); demand = row.demand - count }
+
+-- the free frames that this takes
+abbrev pub frames_for_all : ℕ → Row → ℕ
+frames_for_all count row = (row.target + count) - row.held
+
+-- so many pages can be given at once where so many frames are free
+pub record CanGrowBy (count free : ℕ) (row : Row) : Type 0 where
+  pub some : 1 ≤ count
+  pub demand : count ≤ row.demand
+  pub room : row.target + count ≤ row.cap
+  pub held : row.target ≤ row.held
+  pub enough : frames_for_all count row ≤ free
+
+-- as many as a guest wants, its cap lets it have, and the frames above the threshold of Soft suffice for
+abbrev pub affordable : Thresholds → ℕ → Row → ℕ
+affordable t free row = min (min row.demand (row.cap - row.target)) ((row.held - row.target) + (free - t.soft))
+
+-- the guest with so many pages comes before another one, whose price is this
+abbrev pub IsAhead : Tax → Row → (position pages : ℕ) → Ratio → ℕ → Type 0
+IsAhead tax row position pages rival other = IsAbove (ratio_with tax row pages) position rival other
+
+-- Each of so many grants to a guest is the next one after those before it, and they can be given at once.
+pub record IsRun (state : State) (t : Thresholds) (tax : Tax) (pool : Pool) (position count : ℕ) : Type 0 where
+  pub each_next : EachMove (λ before move. IsNextGrant state t tax (pool_after pool before) move) (replicate count position)
+  pub can : IsSomeAnd (slice_get pool.rows position) (CanGrowBy count pool.free)
+
+-- ---- revocations
+
+-- a guest that lost so many pages of its target
+abbrev pub lowered_row : ℕ → Row → Row
+lowered_row count row = record row { target = row.target - count }
+
+-- so many pages can be taken at once
+pub record CanLose (count : ℕ) (row : Row) : Type 0 where
+  pub some : 1 ≤ count
+  pub above : row.min + count ≤ row.target
+
+-- the guest with so many pages is taken from before another one, whose price is this
+abbrev pub IsBehind : Tax → Row → (position pages : ℕ) → Ratio → ℕ → Type 0
+IsBehind tax row position pages rival other = IsBelow (ratio_with tax row pages) position rival other
+
+-- Each of so many revocations from a guest takes from the least price after those before it, and they can be done at once.
+pub record IsFall (tax : Tax) (rows : List Row) (position count : ℕ) : Type 0 where
+  pub each_least : EachMove (λ before move. IsLeast (revocable_ratios tax (rows_after rows before)) move) (replicate count position)
+  pub can : IsSomeAnd (slice_get rows position) (CanLose count)
