@@ -1,7 +1,7 @@
 ghost use Rattle.std.specs.Prelude.{◌≡◌, ◌+◌, ◌-◌, ◌<◌, ◌≤◌, ◌↔◌, ◌^◌, IsTrue, IsSome, IfOk, IfErr, IfSome, OnOk, OnErr, length, min, true, false};
 ghost use Rattle.std.specs.Bool.{OnTrue, OnFalse};
 ghost use Rattle.std.specs.FinSet as set;
-ghost use Rattle.vm_guest.specs.Boundary.{granted, ordered, released, revoked, serviced, spares_over, with_cap, with_min, with_shares, with_spare, without_spares};
+ghost use Rattle.vm_guest.specs.Boundary.{granted, lowered, ordered, released, revoked, serviced, spares_over, with_cap, with_grants, with_min, with_shares, with_spare, without_spares};
 ghost use Rattle.vm_guest.specs.Frames.{GivesOut, TakesBack, TakesBackSome, with_frame};
 ghost use Rattle.vm_guest.specs.Good.{HasNothingPosted};
 ghost use Rattle.vm_guest.specs.Memory.{bytes_of};
@@ -161,6 +161,14 @@ impl Guest {
         self.parts.allotment.target -= 1;
     }
 
+    /// Lowers the target by so many frames, at most to the minimum (Waldspurger, OSDI 2002, section 5.1).
+    pub fn lower_target(&mut self, count: u32)
+        requires { self.old.guest.allotment.min + count ≤ self.old.guest.allotment.target }
+        ensures { self.new ≡ with_guest self.old (lowered count self.old.guest) }
+    {
+        self.parts.allotment.target -= count;
+    }
+
     /// Raises the target by a frame that the guest asked for. The frame comes with it exactly where the guest has none above its
     /// target.
     pub fn grant(&mut self, frame: Option<Frame>)
@@ -178,6 +186,17 @@ impl Guest {
         }
         self.parts.allotment.target += 1;
         self.parts.allotment.demand -= 1;
+    }
+
+    /// Raises the target by so many frames that the guest asked for. Where it holds fewer then, frames have to come to it (`add_spare`).
+    pub fn raise_target(&mut self, count: u32)
+        requires demand { count ≤ self.old.guest.allotment.demand }
+        requires room { self.old.guest.allotment.target + count ≤ self.old.guest.allotment.cap }
+        ensures { self.new ≡ with_guest self.old (with_grants count self.old.guest) }
+    {
+        let allotment = &mut self.parts.allotment;
+        allotment.target += count;
+        allotment.demand -= u64::from(count);
     }
 
     /// A frame joins the spares of a guest that has fewer frames than its target.

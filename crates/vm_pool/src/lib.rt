@@ -18,6 +18,7 @@
 #![tactic(auto)]
 
 mod aside;
+mod granting;
 mod law;
 mod minimum;
 mod pool;

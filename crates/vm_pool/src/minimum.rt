@@ -39,7 +39,7 @@ pub(crate) fn set_min(
 }
 
 // So many frames join the spares of a guest that lacks them.
-fn add_spares(guest: &mut Guest, count: u32, machine: &mut Machine)
+pub(crate) fn add_spares(guest: &mut Guest, count: u32, machine: &mut Machine)
     requires few { count ≤ guest.old.guest.allotment.target - guest.old.guest.memory.held }
     requires enough { set.len machine.old.out + count ≤ machine.old.total }
     requires out { (number : ℕ) → set.contains guest.old.frames number ≡ true → set.contains machine.old.out number ≡ true }

@@ -1,10 +1,11 @@
-ghost use Rattle.std.specs.Prelude.{◌≡◌, ℕ, ◌+◌, ◌<◌, ◌≤◌, ◌↔◌, IfOk, IfErr, IfSome, IsSome, IsSomeAnd, OnOk, OnErr, IsTrue, None, [], length, map, slice_get, vec_len, vec_capacity};
+ghost use Rattle.std.specs.Prelude.{◌≡◌, ℕ, ◌+◌, ◌<◌, ◌≤◌, ◌↔◌, IfOk, IfErr, IfSome, IsSome, IsSomeAnd, OnOk, OnErr, IsTrue, None, [], fold, length, map, replicate, slice_get, vec_len, vec_capacity};
 ghost use Rattle.std.specs.Option.{option_map};
 ghost use Rattle.vm_guest.specs.Boundary.{ordered, revoked, serviced, with_cap, with_shares, without_spares};
 ghost use Rattle.vm_guest.specs.Good.{HasNothingPosted, IsGood};
 ghost use Rattle.vm_guest.specs.Record.{reserve};
 ghost use Rattle.vm_guest.specs.View.{view_of};
-ghost use Rattle.vm_pool.specs.Changes.{after_epoch, all_changed, changed, freed, frames_to_grant, frames_to_start, granted_at, lacking, released_at, spares_of, started_at, stopped_at, surplus_of, waits_above, with_min_at, with_orders, with_released, with_spares_back, is_above_in, AreReleasable};
+ghost use Rattle.vm_pool.specs.CanMove.{CanGrant, CanRevoke};
+ghost use Rattle.vm_pool.specs.Changes.{after_epoch, all_changed, changed, freed, frames_to_start, granted_at, lacking, released_at, spares_of, started_at, stopped_at, surplus_of, waits_above, with_min_at, with_orders, with_released, with_spares_back, is_above_in, AreReleasable};
 ghost use Rattle.vm_pool.specs.Pool.{first_pool, guest_at, most_aside, overhead_frames, running_count, stopped_config, Conserves, EachGuest, HasTarget, IsRoomAt};
 ghost use Rattle.vm_pool.specs.Readers.{peeked, stalled_of, Peeks};
 ghost use Rattle.vm_pool.specs.declared.slot.Slot.TheVariants.{Stopped};
@@ -270,25 +271,25 @@ impl Pool {
         release(&mut self.slots[position], count, &mut self.machine);
     }
 
-    /// Lowers the target of the guest at a position by a frame (Waldspurger, OSDI 2002, section 5.1).
-    pub fn revoke(&mut self, position: usize)
-        requires within { position < length self.old.guests }
-        requires above { IfSome (guest_at self.old position) (λ g. g.allotment.min < g.allotment.target) }
-        ensures { self.new ≡ changed revoked self.old position }
+    /// Lowers the target of the guest at a position by so many frames, one after the other (Waldspurger, OSDI 2002, section 5.1).
+    pub fn revoke(&mut self, position: usize, count: u32)
+        requires { CanRevoke self.old (replicate count position) }
+        ensures { self.new ≡ fold (changed revoked) self.old (replicate count position) }
     {
-        revoke(&mut self.slots[position]);
+        if count > 0 {
+            revoke(&mut self.slots[position], count);
+        }
     }
 
-    /// Raises the target of the guest at a position by a frame that it asked for. A free frame goes to it exactly where it has
-    /// none above its target.
-    pub fn grant(&mut self, position: usize)
-        requires within { position < length self.old.guests }
-        requires demand { IfSome (guest_at self.old position) (λ g. 0 < g.allotment.demand) }
-        requires room { IfSome (guest_at self.old position) (λ g. g.allotment.target < g.allotment.cap) }
-        requires enough { frames_to_grant (guest_at self.old position) ≤ self.old.free }
-        ensures { self.new ≡ granted_at self.old position }
+    /// Raises the target of the guest at a position by so many frames that it asked for, one after the other. A free frame goes to it
+    /// exactly where it has none above its target.
+    pub fn grant(&mut self, position: usize, count: u32)
+        requires { CanGrant self.old (replicate count position) }
+        ensures { self.new ≡ fold granted_at self.old (replicate count position) }
     {
-        grant(&mut self.slots[position], &mut self.machine);
+        if count > 0 {
+            grant(&mut self.slots[position], count, &mut self.machine);
+        }
     }
 
     /// Sets the most frames that the guest at a position may get (`virsh setmem`). A raised cap is a demand for the difference;

@@ -2,17 +2,18 @@
 ghost use Rattle.std.specs.Prelude.{◌≡◌, ℕ, ◌+◌, ◌-◌, ◌*◌, ◌<◌, ◌≤◌, ◌^◌, Bool, IfOk, IfSome, IsSomeAnd, OnOk, OnErr, Some, None, true, length, map, slice_get};
 ghost use Rattle.std.specs.FinSet as set;
 ghost use Rattle.std.specs.Option.{option_map};
-ghost use Rattle.vm_guest.specs.Boundary.{granted, ordered, released, revoked, serviced, without_spares, with_cap, with_shares};
+ghost use Rattle.vm_guest.specs.Boundary.{lowered, ordered, released, serviced, without_spares, with_cap, with_shares};
 ghost use Rattle.vm_guest.specs.Frames.{times_among};
 ghost use Rattle.vm_guest.specs.Room.{room_for};
 ghost use Rattle.vm_guest.specs.Start.{started};
-ghost use Rattle.vm_pool.specs.Changes.{frames_to_grant, lacking, surplus_of, with_min_held};
+ghost use Rattle.vm_pool.specs.Changes.{lacking, surplus_of, with_min_held};
+ghost use Rattle.vm_pool.specs.Growth.{frames_to_grow, grown};
 ghost use Rattle.vm_pool.specs.Moves.{once_if, Moves};
 ghost use Rattle.vm_pool.specs.Guests.{running};
 ghost use Rattle.vm_pool.specs.Pool.{held_by, total_held};
 ghost use Rattle.vm_pool.specs.Slots.{config_in, guest_in, holders, holds, is_away, slot_changed, spec_in, IsRunning, IsSettled, IsStopped};
 
-use crate::minimum;
+use crate::{granting, minimum};
 use std::alloc::{AllocError, Global};
 use std::mem;
 use vm_frames::{Frame, Machine};
@@ -136,32 +137,27 @@ pub(crate) fn release(slot: &mut Slot, count: u32, machine: &mut Machine)
     }
 }
 
-// Lowers the target of a slot's guest by a frame.
-pub(crate) fn revoke(slot: &mut Slot)
-    requires { IfSome (guest_in slot.old) (λ g. g.allotment.min < g.allotment.target) }
-    ensures { slot.new ≡ slot_changed revoked slot.old }
+// Lowers the target of a slot's guest by so many frames.
+pub(crate) fn revoke(slot: &mut Slot, count: u32)
+    requires { IfSome (guest_in slot.old) (λ g. g.allotment.min + count ≤ g.allotment.target) }
+    ensures { slot.new ≡ slot_changed (lowered count) slot.old }
 {
     if let Slot::Running(guest) = slot {
-        guest.revoke();
+        guest.lower_target(count);
     }
 }
 
-// Grants a frame to the guest of a slot: a free one exactly where it has none above its target.
-pub(crate) fn grant(slot: &mut Slot, machine: &mut Machine)
-    requires demand { IfSome (guest_in slot.old) (λ g. 0 < g.allotment.demand) }
-    requires room { IfSome (guest_in slot.old) (λ g. g.allotment.target < g.allotment.cap) }
-    requires enough { set.len machine.old.out + frames_to_grant (guest_in slot.old) ≤ machine.old.total }
+// Raises the target of a slot's guest by so many frames. Free ones go to it where it holds fewer then.
+pub(crate) fn grant(slot: &mut Slot, count: u32, machine: &mut Machine)
+    requires demand { IfSome (guest_in slot.old) (λ g. count ≤ g.allotment.demand) }
+    requires room { IfSome (guest_in slot.old) (λ g. g.allotment.target + count ≤ g.allotment.cap) }
+    requires enough { set.len machine.old.out + frames_to_grow count (guest_in slot.old) ≤ machine.old.total }
     requires settled { IsSettled slot.old }
     requires out { (number : ℕ) → holds number slot.old ≡ true → set.contains machine.old.out number ≡ true }
-    ensures { Moves (option_map granted (guest_in slot.old)) slot.old slot.new machine.old machine.new }
+    ensures { Moves (option_map (grown count) (guest_in slot.old)) slot.old slot.new machine.old machine.new }
 {
     if let Slot::Running(guest) = slot {
-        let view = guest.view();
-        if view.held == view.target {
-            guest.grant(machine.take());
-        } else {
-            guest.grant(None);
-        }
+        granting::grant(guest, count, machine);
     }
 }
 

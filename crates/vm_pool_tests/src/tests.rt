@@ -85,23 +85,29 @@ fn frames_of(pool: &Pool, position: usize) -> Option<(u32, u32)> {
     Some((view.target, view.held))
 }
 
-// Grants a frame to a guest that asked for it.
-fn grant(rt: &impl Abort, pool: &mut Pool, position: usize) {
-    assert!(rt; position < pool.len() && pool.free() > 0);
+// Grants so many frames at once to a guest that asked for them.
+fn grant(rt: &impl Abort, pool: &mut Pool, position: usize, count: u32) {
+    assert!(rt; position < pool.len() && count <= pool.free());
     let view = pool.view(position).expect(rt, "it runs");
-    assert!(rt; view.demand > 0 && view.target < view.cap);
-    pool.grant(position);
+    assert!(rt; u64::from(count) <= view.demand);
+    assert!(rt; u64::from(view.target) + u64::from(count) <= u64::from(view.cap));
+    pool.grant(position, count);
 }
 
-// Revokes a frame of a guest, which gives it back at once.
-fn take_back(rt: &impl Abort, pool: &mut Pool, position: usize) {
+// Revokes so many frames of a guest at once.
+fn revoke(rt: &impl Abort, pool: &mut Pool, position: usize, count: u32) {
     assert!(rt; position < pool.len());
     let view = pool.view(position).expect(rt, "it runs");
-    assert!(rt; view.min < view.target);
-    pool.revoke(position);
+    assert!(rt; u64::from(view.min) + u64::from(count) <= u64::from(view.target));
+    pool.revoke(position, count);
+}
+
+// A guest gives back so many frames that it has above its target.
+fn release(rt: &impl Abort, pool: &mut Pool, position: usize, count: u32) {
+    assert!(rt; position < pool.len());
     let view = pool.view(position).expect(rt, "it runs");
-    assert!(rt; view.target < view.held);
-    pool.release(position, 1);
+    assert!(rt; view.target <= view.held && count <= view.held - view.target);
+    pool.release(position, count);
 }
 
 // Sets the most frames that a guest may get.
@@ -197,9 +203,12 @@ fn frames_move_and_add_up(rt: HostRuntime) -> Result<(), Fail> {
     check_eq(&rt, (pool.free(), pool.overhead_frames()), (10, 2));
     check_reserve(&rt, &pool, (4, 4), 10, 4);
 
-    grant(&rt, &mut pool, 0);
-    check_frames(&rt, &pool, (5, 5), 9);
-    take_back(&rt, &mut pool, 0);
+    grant(&rt, &mut pool, 0, 3);
+    check_frames(&rt, &pool, (7, 7), 7);
+    revoke(&rt, &mut pool, 0, 2);
+    check_frames(&rt, &pool, (5, 7), 7);
+    revoke(&rt, &mut pool, 0, 1);
+    release(&rt, &mut pool, 0, 3);
     check_frames(&rt, &pool, (4, 4), 10);
     set_min(&rt, &mut pool, 0, 7);
     check_reserve(&rt, &pool, (7, 7), 7, 4);
@@ -221,8 +230,7 @@ fn a_guest_above_its_target_waits(rt: HostRuntime) -> Result<(), Fail> {
     let mut pool = two_guests(&rt, 1)?;
     start(&rt, &mut pool, 0);
     start(&rt, &mut pool, 1);
-    grant(&rt, &mut pool, 0);
-    grant(&rt, &mut pool, 0);
+    grant(&rt, &mut pool, 0, 2);
     set_cap(&rt, &mut pool, 0, 5);
     check_frames(&rt, &pool, (5, 6), 8);
     pool.order_all(true);
@@ -241,13 +249,31 @@ fn a_guest_above_its_target_waits(rt: HostRuntime) -> Result<(), Fail> {
     Ok(())
 }
 
+// Of three frames granted at once, two are there above the old target, and one comes from those that are free.
+#[test]
+fn frames_come_where_there_are_too_few(rt: HostRuntime) -> Result<(), Fail> {
+    let mut pool = two_guests(&rt, 1)?;
+    start(&rt, &mut pool, 0);
+    start(&rt, &mut pool, 1);
+    grant(&rt, &mut pool, 0, 2);
+    check_frames(&rt, &pool, (6, 6), 8);
+    set_cap(&rt, &mut pool, 0, 4);
+    set_cap(&rt, &mut pool, 0, 8);
+    check_frames(&rt, &pool, (4, 6), 8);
+    grant(&rt, &mut pool, 0, 3);
+    check_frames(&rt, &pool, (7, 7), 7);
+    check_eq(&rt, pool.view(0).expect(&rt, "it runs").demand, 3);
+    pool.close();
+    Ok(())
+}
+
 // Guests give frames up side by side, and get their orders where nobody waits.
 #[test]
 fn all_guests_at_once(rt: HostRuntime) -> Result<(), Fail> {
     let mut pool = two_guests(&rt, 0)?;
     start(&rt, &mut pool, 0);
     start(&rt, &mut pool, 1);
-    grant(&rt, &mut pool, 0);
+    grant(&rt, &mut pool, 0, 1);
     set_cap(&rt, &mut pool, 0, 4);
     check_frames(&rt, &pool, (4, 5), 11);
     pool.order_all(false);

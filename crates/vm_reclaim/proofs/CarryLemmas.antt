@@ -5,11 +5,11 @@ use Rattle.std.proofs.lemmas.List.{length-map}
 use Rattle.vm_guest.specs.Boundary.{released}
 use Rattle.vm_guest.specs.Record.{GuestRecord}
 use Rattle.vm_pool.specs.Changes.{AreReleasable, granted_at, surplus_of, with_released}
+use Rattle.vm_pool.specs.CanMove.{CanGrant, CanRevoke}
 use Rattle.vm_pool.specs.Guests.{Guests, each_released, guest_changed, guest_in, sum_of}
 use Rattle.vm_pool.specs.Pool.{PoolView}
 use Rattle.vm_plan.specs.declared.state.State.{State}
 use Rattle.vm_plan.specs.Paging.{page_count_of}
-use Rattle.vm_sound.specs.Moves.{CanGrant, CanRevoke}
 use Rattle.vm_reclaim.specs.Boundary.{CanCarryOut, CanGiveUp, carried_out, given_up, plan_of, pool_reclaimed, pool_settled, with_paging}
 use Rattle.vm_reclaim.specs.Policy.{Policy}
 use Rattle.vm_reclaim.specs.Reclaim.{counts_of, grants_in, paged_from, pool_revoked, revocations_in}

@@ -8,4 +8,6 @@ pub mod RoomLemmas
 pub mod PlanningLemmas
 pub mod RestLemmas
 pub mod CarryLemmas
+pub mod StretchLemmas
+pub mod TogetherLemmas
 pub mod EnoughLemmas

@@ -18,10 +18,10 @@ use Rattle.vm_plan.specs.Grants.{Pool, granted as granted_pool, granted_row, poo
 use Rattle.vm_plan.specs.Moves.{EachMove}
 use Rattle.vm_plan.specs.Row.{Row, change_at}
 use Rattle.vm_pool.specs.Changes.{frames_for_grant, frames_to_grant, granted_at}
+use Rattle.vm_pool.specs.CanMove.{CanGrant}
 use Rattle.vm_pool.specs.Guests.{Guests, guest_changed, guest_in}
 use Rattle.vm_pool.specs.Pool.{PoolView}
 use Rattle.vm_reclaim.specs.Making.{raised_row, IsRaisable}
-use Rattle.vm_sound.specs.Moves.{CanGrant}
 use Rattle.vm_reclaim.specs.Room.{raised}
 use Rattle.vm_reclaim.specs.Rows.{plan_pool_of, row_at, row_of, rows_of}
 use Rattle.vm_reclaim.specs.declared.room.Raise.{Raise}

@@ -3,8 +3,8 @@ use Rattle.std.specs.Prelude.{◌<◌, ◌≤◌, ⊤, List, [], ◌∷◌, fold
 use Rattle.vm_guest.specs.Boundary.{revoked}
 use Rattle.vm_plan.specs.declared.state.State.{State}
 use Rattle.vm_pool.specs.Changes.{changed, granted_at, released_at, surplus_of, with_orders}
+use Rattle.vm_pool.specs.CanMove.{CanGrant, CanRevoke}
 use Rattle.vm_pool.specs.Pool.{PoolView, guest_at}
-use Rattle.vm_sound.specs.Moves.{CanGrant, CanRevoke}
 use Rattle.vm_reclaim.specs.declared.told.BoundaryPlan.{BoundaryPlan}
 use Rattle.vm_reclaim.specs.declared.told.Paged.{Paged}
 use Rattle.vm_reclaim.specs.Policy.{Policy}

@@ -6,6 +6,7 @@ ghost use Rattle.vm_plan.specs.Paging.{page_count_of};
 ghost use Rattle.vm_plan.specs.PlanRow.{row_of, rows_of as plan_rows};
 ghost use Rattle.vm_plan.specs.Revocation.{revoked_row, rows_after, IsRevocable};
 ghost use Rattle.vm_plan.specs.Row.{change_at};
+ghost use Rattle.vm_pool.specs.CanMove.{CanRevoke};
 ghost use Rattle.vm_pool.specs.Changes.{changed};
 ghost use Rattle.vm_pool.specs.Pool.{total_held, EachGuest};
 ghost use Rattle.vm_reclaim.specs.Boundary.{carried_out, plan_of, pool_reclaimed, pool_settled, CanCarryOut};
@@ -14,7 +15,6 @@ ghost use Rattle.vm_reclaim.specs.Numbers.{policy_in};
 ghost use Rattle.vm_reclaim.specs.Planning.{frames_in, if_paged, paged_row, row_counts, waiting_from, waits_row, CanLower};
 ghost use Rattle.vm_reclaim.specs.Reclaim.{if_blocked, paged_from, pool_revoked, revocations_in, waits_in, wanted_in};
 ghost use Rattle.vm_reclaim.specs.Rows.{plan_pool_of, rows_of};
-ghost use Rattle.vm_sound.specs.Moves.{CanRevoke};
 ghost use Rattle.vm_tax.specs.Ratio.{hundredths};
 
 use crate::policy::Numbers;

@@ -3,11 +3,11 @@
 ghost use Rattle.std.specs.Prelude.{◌≡◌, fold};
 ghost use Rattle.vm_guest.specs.Boundary.{revoked};
 ghost use Rattle.vm_pool.specs.Changes.{changed, granted_at};
+ghost use Rattle.vm_pool.specs.CanMove.{CanGrant, CanRevoke};
 ghost use Rattle.vm_reclaim.specs.Boundary.{carried_out, given_up, CanCarryOut, CanGiveUp};
 ghost use Rattle.vm_reclaim.specs.Numbers.{policy_in};
 ghost use Rattle.vm_reclaim.specs.Policy.{policy_of};
 ghost use Rattle.vm_reclaim.specs.Reclaim.{waits_in};
-ghost use Rattle.vm_sound.specs.Moves.{CanGrant, CanRevoke};
 
 use crate::policy::Numbers;
 use crate::told::{BoundaryPlan, Paged};
@@ -26,13 +26,14 @@ pub fn numbers_of(spec: &MachineSpec) -> Numbers
     }
 }
 
-// Each of these targets falls by one.
+// Each of these targets falls by one, and those of one guest in a row together.
 fn revoke_all(pool: &mut Pool, plan: &Plan)
     requires { CanRevoke pool.old plan.now }
     ensures { pool.new ≡ fold (changed revoked) pool.old plan.now }
 {
-    for position in plan.moves() {
-        pool.revoke(position as usize);
+    let stretches = plan.stretches();
+    for stretch in stretches {
+        pool.revoke(stretch.position as usize, stretch.count);
     }
 }
 
@@ -46,13 +47,14 @@ fn give_up_all(pool: &mut Pool, paged: &[Paged])
     }
 }
 
-// Each of these targets rises by one.
+// Each of these targets rises by one, and those of one guest in a row together.
 fn grant_all(pool: &mut Pool, plan: &Plan)
     requires { CanGrant pool.old plan.now }
     ensures { pool.new ≡ fold granted_at pool.old plan.now }
 {
-    for position in plan.moves() {
-        pool.grant(position as usize);
+    let stretches = plan.stretches();
+    for stretch in stretches {
+        pool.grant(stretch.position as usize, stretch.count);
     }
 }
 

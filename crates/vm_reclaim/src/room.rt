@@ -1,6 +1,6 @@
 //! How room is made for frames that a command needs at once, and that are not free (ballooning is too slow for that: Waldspurger,
 //! OSDI 2002, section 3.3).
-ghost use Rattle.std.specs.Prelude.{◌≡◌, ◌-◌, ◌<◌, ◌≤◌, IfErr, IfOk, IfSome, OnOk, OnErr, length, fold, slice_get};
+ghost use Rattle.std.specs.Prelude.{◌≡◌, ◌-◌, ◌<◌, ◌≤◌, IfErr, IfOk, IfSome, OnOk, OnErr, length, fold, replicate, slice_get};
 ghost use Rattle.vm_plan.specs.PlanRow.{row_of, rows_of as plan_rows};
 ghost use Rattle.vm_plan.specs.Row.{change_at};
 ghost use Rattle.vm_guest.specs.Good.{IsGood};
@@ -9,7 +9,7 @@ ghost use Rattle.vm_pool.specs.Pool.{EachGuest};
 ghost use Rattle.vm_pool.specs.Guests.{sum_of};
 ghost use Rattle.vm_reclaim.specs.Fairness.{TakesFromCheapest};
 ghost use Rattle.vm_reclaim.specs.Making.{raised_row, shares_of, CanRaise, IsNeededFor};
-ghost use Rattle.vm_sound.specs.Moves.{CanTake, HasFrameAt};
+ghost use Rattle.vm_sound.specs.Moves.{CanTake};
 ghost use Rattle.vm_reclaim.specs.Room.{raised, room_made, surplus_counts, taken_early, with_surplus_back};
 ghost use Rattle.vm_sound.specs.Sound.{HasSameSetup};
 ghost use Rattle.vm_reclaim.specs.Rows.{rows_of};
@@ -100,22 +100,25 @@ fn surplus_shares(alloc: Global, short: u32, rows: &[PlanRow]) -> Result<Surplus
     })
 }
 
-// The guest at a position loses a page of its target, and gives up a frame.
-fn take_at(pool: &mut Pool, position: usize)
-    requires { HasFrameAt pool.old position }
-    ensures { pool.new ≡ taken_at pool.old position }
+// The guest at a position loses so many pages of its target, and gives up as many frames.
+fn take_at(pool: &mut Pool, position: usize, count: u32)
+    requires { CanTake pool.old (replicate count position) }
+    ensures { pool.new ≡ fold taken_at pool.old (replicate count position) }
 {
-    pool.revoke(position);
-    pool.release(position, 1);
+    if count > 0 {
+        pool.revoke(position, count);
+        pool.release(position, count);
+    }
 }
 
-// Each of these, one after the other, loses a frame.
+// Each of these, one after the other, loses a frame, and one guest those in a row together.
 fn take_all(pool: &mut Pool, plan: &Plan)
     requires { CanTake pool.old plan.now }
     ensures { pool.new ≡ fold taken_at pool.old plan.now }
 {
-    for position in plan.moves() {
-        take_at(pool, position as usize);
+    let stretches = plan.stretches();
+    for stretch in stretches {
+        take_at(pool, stretch.position as usize, stretch.count);
     }
 }
 

@@ -9,11 +9,12 @@ use Rattle.vm_guest.specs.Good.{IsGood}
 use Rattle.vm_guest.specs.Record.{GuestRecord}
 use Rattle.vm_guest.proofs.EpochLemmas.{epoch-held, serviced-held}
 use Rattle.vm_pool.specs.Changes.{after_epoch, all_changed, changed, frames_to_grant, frames_to_start, granted_at, lacking, released_at, started_at, stopped_at, surplus_of, taken_at, waits_above, with_min_at, with_orders, with_released, with_spares_back, with_started, AreReleasable}
+use Rattle.vm_pool.specs.CanMove.{CanGrant}
 use Rattle.vm_pool.specs.Guests.{Guests, each_released, number_of, sum_of}
 use Rattle.vm_pool.specs.Pool.{PoolView, guest_at, running_count, total_held, Conserves}
 use Rattle.vm_pool.proofs.ConservesLemmas.{conserves-all_changed, conserves-changed, conserves-granted as granted-one, conserves-released as released-one, conserves-spares as spares-all, conserves-started as started-one, conserves-stopped as stopped-one, conserves-with_min as with_min-one}
 use Rattle.vm_pool.proofs.MoveLemmas.{held-released}
-use Rattle.vm_sound.specs.Moves.{CanGrant, CanTake, HasFrameAt}
+use Rattle.vm_sound.specs.Moves.{CanTake, HasFrameAt}
 use Rattle.vm_sound.specs.Sound.{HasSameSetup, IsSoundPool}
 use Rattle.vm_sound.proofs.PlaceLemmas.{each-in, in-changed, within-here}
 

@@ -12,9 +12,10 @@ use Rattle.vm_guest.specs.Record.{GuestRecord}
 use Rattle.vm_guest.specs.Start.{started}
 use Rattle.vm_guest.proofs.GoodLemmas.{started-good}
 use Rattle.vm_pool.specs.Changes.{after_epoch, all_changed, changed, granted_at, released_at, started_at, stopped_at, taken_at, waits_above, with_min_at, with_min_held, with_orders, with_released, with_spares_back, with_started, AreReleasable}
+use Rattle.vm_pool.specs.CanMove.{CanGrant, CanRevoke}
 use Rattle.vm_pool.specs.Guests.{Guests, guest_in, EachRunning}
 use Rattle.vm_pool.specs.Pool.{PoolView, guest_at, EachGuest}
-use Rattle.vm_sound.specs.Moves.{CanGrant, CanRevoke, CanTake}
+use Rattle.vm_sound.specs.Moves.{CanTake}
 use Rattle.vm_sound.specs.Sound.{IsSoundPool}
 use Rattle.vm_sound.proofs.BecomeLemmas.{EachBecomes, become-all, become-at, become-released, before-become, each-become, length-become}
 use Rattle.vm_sound.proofs.PlaceLemmas.{each-in, each-of, guests-taken, if-any, if-both, if-here, if-then, in-set, in-set_other, same-or_apart}

@@ -8,9 +8,10 @@ ghost use Rattle.vm_guest.specs.Good.{HasNothingPosted, IsGood};
 ghost use Rattle.vm_guest.specs.Happenings.{Started, epoch_happenings, service_happenings, IsWrittenBy};
 ghost use Rattle.vm_guest.specs.Record.{GuestRecord, reserve};
 ghost use Rattle.vm_pool.specs.Changes.{after_epoch, all_changed, changed, frames_to_grant, frames_to_start, granted_at, lacking, released_at, started_at, stopped_at, surplus_of, taken_at, with_min_at, with_orders, with_released, with_spares_back, AreReleasable};
+ghost use Rattle.vm_pool.specs.CanMove.{CanGrant, CanRevoke};
 ghost use Rattle.vm_pool.specs.Pool.{PoolView, guest_at, Conserves, EachGuest};
 ghost use Rattle.vm_sound.specs.Books.{accounts_of};
-ghost use Rattle.vm_sound.specs.Moves.{CanGrant, CanRevoke, CanTake, HasFrameAt};
+ghost use Rattle.vm_sound.specs.Moves.{CanTake, HasFrameAt};
 ghost use Rattle.vm_sound.specs.Sound.{IsSoundPool};
 ghost use Rattle.vm_sound.specs.Written.{History, happenings_at, with_happenings, AreAll};
 

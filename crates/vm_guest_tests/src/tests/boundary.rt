@@ -53,6 +53,37 @@ fn spares_come_back(rt: HostRuntime) {
     lone.finish();
 }
 
+// A target that rises by two takes so much from the demand. One frame is there above the old one, and another has to come.
+#[test]
+fn a_target_rises(rt: HostRuntime) {
+    let rt = &rt;
+    let mut lone = LoneGuest::start(rt, idle_guest(rt.alloc(), 8, 4));
+    lone.grant(rt);
+    lone.revoke(rt);
+    lone.raise_target(rt, 2);
+    lone.check_wants(rt, (6, 5, 1));
+    lone.add_spare(rt);
+    lone.check_wants(rt, (6, 6, 1));
+    lone.check_free(rt, 94);
+    lone.finish();
+}
+
+// A target that falls by two, to the minimum, leaves two frames above it, which come back. The demand stands.
+#[test]
+fn a_target_falls(rt: HostRuntime) {
+    let rt = &rt;
+    let mut lone = LoneGuest::start(rt, idle_guest(rt.alloc(), 8, 4));
+    lone.grant(rt);
+    lone.grant(rt);
+    lone.lower_target(rt, 2);
+    lone.check_wants(rt, (4, 6, 2));
+    lone.lower_target(rt, 0);
+    check_eq(rt, lone.spares_back(rt), 2);
+    lone.check_wants(rt, (4, 4, 2));
+    lone.check_free(rt, 96);
+    lone.finish();
+}
+
 // Nothing is executed or posted in the epoch of a blocked guest, and its demand stands.
 #[test]
 fn a_blocked_guest_waits(rt: HostRuntime) {

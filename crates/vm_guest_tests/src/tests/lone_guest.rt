@@ -139,6 +139,14 @@ impl LoneGuest {
         self.guest.revoke();
     }
 
+    // Lowers the target, at most to the minimum.
+    pub(super) fn lower_target(&mut self, rt: &impl Abort, count: u32) {
+        let view = self.guest.view();
+        demand(rt, view.min <= view.target);
+        demand(rt, count <= view.target - view.min);
+        self.guest.lower_target(count);
+    }
+
     // A grant of a frame that the guest lacks.
     pub(super) fn grant(&mut self, rt: &impl Abort)
         ensures { HasNothingPosted self.old.guest → HasNothingPosted self.new.guest }
@@ -158,6 +166,14 @@ impl LoneGuest {
         demand(rt, view.target < view.cap);
         demand(rt, view.target < view.held);
         self.guest.grant(None);
+    }
+
+    // Raises the target, for which frames have to come where the guest holds fewer then.
+    pub(super) fn raise_target(&mut self, rt: &impl Abort, count: u32) {
+        let view = self.guest.view();
+        demand(rt, u64::from(count) <= view.demand);
+        demand(rt, count <= view.cap - view.target);
+        self.guest.raise_target(count);
     }
 
     pub(super) fn add_spare(&mut self, rt: &impl Abort) {

@@ -4,7 +4,7 @@ use Rattle.vm_plan.specs.declared.row.PlanRow.{PlanRow}
 use Rattle.vm_plan.specs.Grants.{Pool, grant_list, IsGrantList}
 use Rattle.vm_plan.specs.PlanRow.{pool_of, rows_of as plan_rows}
 use Rattle.vm_plan.proofs.Places.{grants_apply}
-use Rattle.vm_sound.specs.Moves.{CanGrant, CanRevoke}
+use Rattle.vm_pool.specs.CanMove.{CanGrant, CanRevoke}
 use Rattle.vm_reclaim.specs.declared.told.BoundaryPlan.{BoundaryPlan}
 use Rattle.vm_reclaim.specs.declared.told.Paged.{Paged}
 use Rattle.vm_reclaim.specs.Boundary.{carried_out, pool_reclaimed, CanCarryOut}

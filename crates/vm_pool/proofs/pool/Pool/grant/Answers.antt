@@ -1,32 +1,35 @@
-use Rattle.std.proofs.Common.{◌≤◌, ◌∙◌, sym, subst, refl}
-use Rattle.vm_guest.specs.Boundary.{granted}
-use Rattle.vm_pool.specs.Changes.{frames_to_grant, spent}
-use Rattle.vm_pool.specs.Slots.{guest_in}
-use Rattle.vm_pool.proofs.MoveLemmas.{held-granted}
-use Rattle.vm_pool.proofs.PoolLemmas.{guest-here, pool-moved, pool-spent, view-spent, within-slots}
+use Rattle.std.proofs.Common.{rules}
+use Rattle.vm_pool.proofs.GrowLemmas.{can-grow_there, frames-there, pool-grown, slot-there, view-grown, AsksFor}
+use Rattle.vm_pool.proofs.PoolLemmas.{holds-out, settled-at}
 use Rattle.vm_pool.proofs.pool.Pool.grant.Goals as goal
+
+pub index_mut-requires : goal.index_mut-requires
+index_mut-requires c =
+    let there = slot-there c.args.count c.self.inside c.args.self.now c.args.position (record { good = c.self.invariant; is = c.self.view_is; some = c.if-count-gt0.true; can = c.requires }) in
+    search rules
+
+pub grant-requires : goal.grant-requires
+grant-requires c =
+    let p = c.self.inside in
+    let i = c.args.position in
+    let was = c.index_mut.result.now in
+    let at = c.index_mut.ensures.value in
+    let asks : AsksFor c.args.count p c.args.self.now i = record { good = c.self.invariant; is = c.self.view_is; some = c.if-count-gt0.true; can = c.requires } in
+    let grows = can-grow_there c.args.count p c.args.self.now i asks was at in
+    record {
+      demand = grows.demand;
+      room = grows.room;
+      enough = frames-there c.args.count p c.args.self.now i asks was at;
+      settled = settled-at p i was c.self.invariant (slot-there c.args.count p c.args.self.now i asks) at;
+      out = holds-out p i was c.self.invariant (slot-there c.args.count p c.args.self.now i asks) at;
+    }
 
 pub invariant_of-self : goal.invariant_of-self
 invariant_of-self c =
-    let p = c.self.inside in
-    let i = c.args.position in
-    let was = c.index_mut.result.now in
-    let there = within-slots p c.args.self.now i c.self.view_is c.requires.within in
-    let here = guest-here p c.args.self.now i was c.self.view_is there c.index_mut.ensures.value in
-    let more = held-granted (guest_in was) in
-    let enough = subst (λ v. frames_to_grant (guest_in was) ≤ v.free) (sym c.self.view_is) (subst (λ g. frames_to_grant g ≤ c.args.self.now.free) here c.requires.enough) in
-    let moves = pool-spent p i was c.grant.new.slot c.grant.new.machine granted (frames_to_grant (guest_in was)) c.self.invariant there c.index_mut.ensures.value c.grant.ensures more enough in
-    pool-moved p i was c.grant.new.slot c.grant.new.machine c.grant.new.machine p.aside _ c.self.invariant moves refl
+    let asks : AsksFor c.args.count c.self.inside c.args.self.now c.args.position = record { good = c.self.invariant; is = c.self.view_is; some = c.if-count-gt0.true; can = c.requires } in
+    pool-grown c.args.count c.self.inside c.args.self.now c.args.position asks c.index_mut.result.now c.index_mut.ensures.value c.grant.new.slot c.grant.new.machine c.grant.ensures
 
-pub returns : goal.returns
-returns c =
-    let p = c.self.inside in
-    let i = c.args.position in
-    let was = c.index_mut.result.now in
-    let there = within-slots p c.args.self.now i c.self.view_is c.requires.within in
-    let here = guest-here p c.args.self.now i was c.self.view_is there c.index_mut.ensures.value in
-    let more = held-granted (guest_in was) in
-    let enough = subst (λ v. frames_to_grant (guest_in was) ≤ v.free) (sym c.self.view_is) (subst (λ g. frames_to_grant g ≤ c.args.self.now.free) here c.requires.enough) in
-    let moves = pool-spent p i was c.grant.new.slot c.grant.new.machine granted (frames_to_grant (guest_in was)) c.self.invariant there c.index_mut.ensures.value c.grant.ensures more enough in
-    view-spent p i was c.grant.new.slot c.grant.new.machine granted (frames_to_grant (guest_in was)) moves more
-    ∙ (λ j. spent granted (frames_to_grant (sym here j)) (c.self.view_is j) i)
+pub returns-then-count-gt0 : goal.returns-then-count-gt0
+returns-then-count-gt0 c =
+    let asks : AsksFor c.args.count c.self.inside c.args.self.now c.args.position = record { good = c.self.invariant; is = c.self.view_is; some = c.if-count-gt0.true; can = c.requires } in
+    view-grown c.args.count c.self.inside c.args.self.now c.args.position asks c.index_mut.result.now c.index_mut.ensures.value c.grant.new.slot c.grant.new.machine c.grant.ensures

@@ -1,24 +1,23 @@
-use Rattle.std.proofs.Common.{◌∙◌, ap, refl}
-use Rattle.vm_guest.specs.Boundary.{revoked}
-use Rattle.vm_pool.specs.Changes.{changed}
-use Rattle.vm_pool.proofs.PoolLemmas.{pool-changed, pool-moved, view-changed, within-slots}
-use Rattle.vm_pool.proofs.SlotLemmas.{keeps-revoked}
+use Rattle.std.proofs.Common.{rules}
+use Rattle.vm_pool.proofs.LowerLemmas.{can-lower_there, lower-there, pool-lowered, view-lowered, CanLose}
 use Rattle.vm_pool.proofs.pool.Pool.revoke.Goals as goal
+
+pub index_mut-requires : goal.index_mut-requires
+index_mut-requires c =
+    let there = lower-there c.args.count c.self.inside c.args.self.now c.args.position (record { good = c.self.invariant; is = c.self.view_is; some = c.if-count-gt0.true; can = c.requires }) in
+    search rules
+
+pub revoke-requires : goal.revoke-requires
+revoke-requires c =
+    let loses : CanLose c.args.count c.self.inside c.args.self.now c.args.position = record { good = c.self.invariant; is = c.self.view_is; some = c.if-count-gt0.true; can = c.requires } in
+    can-lower_there c.args.count c.self.inside c.args.self.now c.args.position loses c.index_mut.result.now c.index_mut.ensures.value
 
 pub invariant_of-self : goal.invariant_of-self
 invariant_of-self c =
-    let p = c.self.inside in
-    let i = c.args.position in
-    let was = c.index_mut.result.now in
-    let there = within-slots p c.args.self.now i c.self.view_is c.requires.within in
-    let moves = pool-changed p i was c.revoke.new.slot revoked keeps-revoked c.self.invariant there c.index_mut.ensures.value c.revoke.ensures in
-    pool-moved p i was c.revoke.new.slot p.machine p.machine p.aside _ c.self.invariant moves refl
+    let loses : CanLose c.args.count c.self.inside c.args.self.now c.args.position = record { good = c.self.invariant; is = c.self.view_is; some = c.if-count-gt0.true; can = c.requires } in
+    pool-lowered c.args.count c.self.inside c.args.self.now c.args.position loses c.index_mut.result.now c.index_mut.ensures.value c.revoke.new.slot c.revoke.ensures
 
-pub returns : goal.returns
-returns c =
-    let p = c.self.inside in
-    let i = c.args.position in
-    let was = c.index_mut.result.now in
-    let there = within-slots p c.args.self.now i c.self.view_is c.requires.within in
-    let moves = pool-changed p i was c.revoke.new.slot revoked keeps-revoked c.self.invariant there c.index_mut.ensures.value c.revoke.ensures in
-    view-changed p i was c.revoke.new.slot revoked moves ∙ ap (λ v. changed revoked v i) c.self.view_is
+pub returns-then-count-gt0 : goal.returns-then-count-gt0
+returns-then-count-gt0 c =
+    let loses : CanLose c.args.count c.self.inside c.args.self.now c.args.position = record { good = c.self.invariant; is = c.self.view_is; some = c.if-count-gt0.true; can = c.requires } in
+    view-lowered c.args.count c.self.inside c.args.self.now c.args.position loses c.index_mut.result.now c.index_mut.ensures.value c.revoke.new.slot c.revoke.ensures
