@@ -1,5 +1,5 @@
 -- Moves that a plan tells can be done.
-use Rattle.std.proofs.Common.{◌≡◌, ◌∙◌, ℕ, zero, suc, ◌<◌, IfSome, List, [], ◌∷◌, Option, Some, None, length, sym, refl, ap, subst, arith}
+use Rattle.std.proofs.Common.{◌≡◌, ℕ, zero, suc, ◌<◌, IfSome, List, [], ◌∷◌, Option, Some, None, length, sym, refl, subst, arith}
 use Rattle.std.specs.Option.{option_map}
 use Rattle.std.proofs.lemmas.Option.{none-some}
 use Rattle.vm_guest.specs.Boundary.{revoked}

@@ -6,7 +6,6 @@ ghost use Rattle.vm_plan.specs.Paging.{page_count_of};
 ghost use Rattle.vm_plan.specs.PlanRow.{row_of, rows_of as plan_rows};
 ghost use Rattle.vm_plan.specs.Revocation.{revoked_row, rows_after, IsRevocable};
 ghost use Rattle.vm_plan.specs.Row.{change_at};
-ghost use Rattle.vm_pool.specs.CanMove.{CanRevoke};
 ghost use Rattle.vm_pool.specs.Changes.{changed};
 ghost use Rattle.vm_pool.specs.Pool.{total_held, EachGuest};
 ghost use Rattle.vm_reclaim.specs.Boundary.{carried_out, plan_of, pool_reclaimed, pool_settled, CanCarryOut};
