@@ -74,12 +74,12 @@ pool_with pool position row k = record { free = pool.free - frames_for_all k row
 same_pool : (a b : Pool) → a.free ≡ b.free → a.rows ≡ b.rows → a ≡ b
 same_pool a b e f = λ i. record { free = e i; rows = f i }
 
-pool_with-none : (pool : Pool) (position : ℕ) (row : Row) → slice_get pool.rows position ≡ Some row → row.target ≤ row.held → pool ≡ pool_with pool position row 0
-pool_with-none pool position row at held =
-    let free : pool.free ≡ pool.free - frames_for_all 0 row = omega arith in
-    let here = get_or_from_slice_get pool.rows position row row at in
-    let rows = ap (slice_set pool.rows position) (grown_row-none row held ∙ sym here) ∙ set-get_or pool.rows position row in
-    same_pool pool (pool_with pool position row 0) free (sym rows)
+pool_with-none : (pool : Pool) (position : ℕ) (guest : Row) → slice_get pool.rows position ≡ Some guest → guest.target ≤ guest.held → pool ≡ pool_with pool position guest 0
+pool_with-none pool position guest at held =
+    let free : pool.free ≡ pool.free - frames_for_all 0 guest = omega arith in
+    let here = get_or_from_slice_get pool.rows position guest guest at in
+    let rows = ap (slice_set pool.rows position) (grown_row-none guest held ∙ sym here) ∙ set-get_or pool.rows position guest in
+    same_pool pool (pool_with pool position guest 0) free (sym rows)
 
 pub row_in : (rows : List Row) (position : ℕ) (old new : Row) → slice_get rows position ≡ Some old → slice_get (slice_set rows position new) position ≡ Some new
 row_in rows position old new at =

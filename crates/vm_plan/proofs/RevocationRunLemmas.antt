@@ -35,10 +35,10 @@ lowered_row-more k row = let target : (row.target - k) - 1 ≡ row.target - (k +
 abbrev pub rows_with : List Row → ℕ → Row → ℕ → List Row
 rows_with rows position row k = slice_set rows position (lowered_row k row)
 
-rows_with-none : (rows : List Row) (position : ℕ) (row : Row) → slice_get rows position ≡ Some row → rows ≡ rows_with rows position row 0
-rows_with-none rows position row at =
-    let here = get_or_from_slice_get rows position row row at in
-    sym (ap (slice_set rows position) (lowered_row-none row ∙ sym here) ∙ set-get_or rows position row)
+rows_with-none : (rows : List Row) (position : ℕ) (guest : Row) → slice_get rows position ≡ Some guest → rows ≡ rows_with rows position guest 0
+rows_with-none rows position guest at =
+    let here = get_or_from_slice_get rows position guest guest at in
+    sym (ap (slice_set rows position) (lowered_row-none guest ∙ sym here) ∙ set-get_or rows position guest)
 
 rows_with-more : (rows : List Row) (position : ℕ) (row : Row) (k : ℕ) → slice_get rows position ≡ Some row → change_at revoked_row (rows_with rows position row k) position ≡ rows_with rows position row (k + 1)
 rows_with-more rows position row k at =
