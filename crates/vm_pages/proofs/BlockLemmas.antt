@@ -1,12 +1,12 @@
 -- The counts of the blocks, after one flag has changed.
-use Rattle.std.proofs.Common.{◌≡◌, ℕ, zero, suc, ◌+◌, ◌-◌, ◌*◌, ◌/◌, ◌<◌, ◌≤◌, Bool, true, false, cond, List, length, take, set, get_or, sum, Fits, w32, refl, sym, ap, ◌∙◌, inl, inr, add-one, arith}
-use Rattle.std.proofs.lemmas.List.{take_all, get_or_read, length-set, get_or-set_other, get_or-set_same}
+use Rattle.std.proofs.Common.{◌≡◌, ℕ, zero, suc, ◌+◌, ◌-◌, ◌*◌, ◌/◌, ◌^◌, ◌<◌, ◌≤◌, Bool, true, false, cond, List, length, take, set, get_or, replicate, sum, Fits, w32, refl, ap, inl, inr, add-one, arith}
+use Rattle.std.proofs.lemmas.List.{take_all, get_or_read, length-set, length-replicate, get_or-set_other, get_or-set_same, get_or-replicate}
 use Rattle.std.proofs.lemmas.Bool.{cases_eq, cases_lt}
-use Rattle.std.proofs.lemmas.List.Sums.{sum_by_more, sum_by-set, get_or-le-sum_by}
-use Rattle.vm_pages.specs.Pages.{count, count_below}
+use Rattle.std.proofs.lemmas.List.Sums.{sum_by_more, sum_by-set, sum_by-take-le, get_or-le-sum_by}
+use Rattle.vm_pages.specs.Pages.{no_pages, count, count_below}
 use Rattle.vm_pages.specs.Blocks.{AreCounted}
-use Rattle.vm_pages.proofs.PageSets.{count-lt-length}
-use Rattle.vm_pages.proofs.Listings.{count_below-set, count_below-set_before, count_below_mono}
+use Rattle.vm_pages.proofs.PageSets.{count-lt-length, count-no_pages, length-no_pages}
+use Rattle.vm_pages.proofs.Listings.{count_below-set, count_below-set_before, count_below_mono, count_below_all}
 
 abbrev weight : Bool → ℕ
 weight marked = cond marked 1 0
@@ -65,14 +65,14 @@ block-positive pages counts len page counted there marked =
     let fewer = rw marked at (count_below-set pages page ((page / 256 + 1) * 256) false there (omega arith)) in
     omega (arith, fewer, counted.each (page / 256) (omega (arith, counted.blocks)), count_below-set_before pages page (page / 256 * 256) false (omega arith), count_below_mono (set pages page false) (page / 256 * 256) ((page / 256 + 1) * 256) (omega arith))
 
--- what a set keeps when a page of mark `m`, in a block of count `n`, comes in or leaves
+-- what a set keeps when a page, in a block of count `n`, comes in or leaves
 pub record Inserted (pages : List Bool) (counts : List ℕ) (len page n : ℕ) : Type 0 where
   pub count_fits : Fits w32 (n + 1)
   pub len_fits : Fits w32 (len + 1)
   pub counted : AreCounted (set pages page true) (set counts (page / 256) (n + 1)) (len + 1)
 
-pub inserted : (pages : List Bool) (counts : List ℕ) (len page n : ℕ) (m : Bool) → AreCounted pages counts len → page < length pages → m ≡ get_or pages page m → m ≡ false → n ≡ get_or counts (page / 256) n → Inserted pages counts len page n
-inserted pages counts len page n m counted there m_read unmarked n_read = record {
+pub inserted : (pages : List Bool) (counts : List ℕ) (len page n : ℕ) → AreCounted pages counts len → page < length pages → get_or pages page false ≡ false → n ≡ get_or counts (page / 256) n → Inserted pages counts len page n
+inserted pages counts len page n counted there absent n_read = record {
   count_fits = omega (arith, room, counted.fits, n_is, block-le-count pages counts len (page / 256) counted slot);
   len_fits = omega (arith, room, counted.fits, counted.all);
   counted = AreCounted-set pages counts len page (n + 1) (len + 1) true counted there (rw absent (omega (arith, n_is))) (rw absent (omega arith));
@@ -80,9 +80,6 @@ inserted pages counts len page n m counted there m_read unmarked n_read = record
   where
     slot : page / 256 < length counts
     slot = omega (arith, counted.blocks)
-
-    absent : get_or pages page false ≡ false
-    absent = sym (get_or_read pages page m there m_read false) ∙ unmarked
 
     n_is : n ≡ get_or counts (page / 256) 0
     n_is = get_or_read counts (page / 256) n slot n_read 0
@@ -94,8 +91,8 @@ pub record Removed (pages : List Bool) (counts : List ℕ) (len page n : ℕ) : 
   pub counts_it : 1 ≤ n
   pub counted : AreCounted (set pages page false) (set counts (page / 256) (n - 1)) (len - 1)
 
-pub removed : (pages : List Bool) (counts : List ℕ) (len page n : ℕ) (m : Bool) → AreCounted pages counts len → page < length pages → m ≡ get_or pages page m → m ≡ true → n ≡ get_or counts (page / 256) n → Removed pages counts len page n
-removed pages counts len page n m counted there m_read marked n_read = record {
+pub removed : (pages : List Bool) (counts : List ℕ) (len page n : ℕ) → AreCounted pages counts len → page < length pages → get_or pages page false ≡ true → n ≡ get_or counts (page / 256) n → Removed pages counts len page n
+removed pages counts len page n counted there present n_read = record {
   counts_it = rw n_is positive;
   counted = AreCounted-set pages counts len page (n - 1) (len - 1) false counted there (rw present (omega (arith, n_is, positive))) (rw present (omega (arith, positive, n_is, counted.all, block-le-count pages counts len (page / 256) counted slot)));
 }
@@ -103,11 +100,29 @@ removed pages counts len page n m counted there m_read marked n_read = record {
     slot : page / 256 < length counts
     slot = omega (arith, counted.blocks)
 
-    present : get_or pages page false ≡ true
-    present = sym (get_or_read pages page m there m_read false) ∙ marked
-
     n_is : n ≡ get_or counts (page / 256) 0
     n_is = get_or_read counts (page / 256) n slot n_read 0
 
     positive : 1 ≤ get_or counts (page / 256) 0
     positive = block-positive pages counts len page counted there present
+
+-- a block that counts pages begins below the end
+pub block_begins : (pages : List Bool) (counts : List ℕ) (len block : ℕ) → AreCounted pages counts len → block < length counts → 0 < get_or counts block 0 → block * 256 < length pages
+block_begins pages counts len block counted within some =
+    elim (cases_lt (block * 256) (length pages)) [
+      | inl before ↦ before
+      | inr past ↦ absurd (omega (arith, counted.each block within, some, count_below_all pages (block * 256) past, count_below_all pages ((block + 1) * 256) (omega arith)))
+    ]
+
+-- the empty set
+pub AreCounted-none : (size blocks : ℕ) → size ≤ blocks * 256 → blocks ≤ size → size < 2 ^ 32 → AreCounted (no_pages size) (replicate blocks 0) 0
+AreCounted-none size blocks cover few fits = record {
+  blocks = omega (arith, cover, length-no_pages size, length-replicate {A = ℕ} blocks 0);
+  few = omega (arith, few, length-no_pages size, length-replicate {A = ℕ} blocks 0);
+  each = λ block within. omega (arith, none_below (block * 256), none_below ((block + 1) * 256), get_or-replicate {A = ℕ} blocks block 0 0 (omega (arith, length-replicate {A = ℕ} blocks 0)));
+  all = omega (arith, count-no_pages size);
+  fits = omega (arith, fits, length-no_pages size);
+}
+  where
+    none_below : (page : ℕ) → count_below (no_pages size) page ≡ 0
+    none_below page = omega (arith, sum_by-take-le weight (no_pages size) page, count-no_pages size)

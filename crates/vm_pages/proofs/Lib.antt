@@ -1,4 +1,5 @@
 mod BlockLemmas
 mod ExtremeLemmas
+mod WordLemmas
 pub mod PageSets
 pub mod Listings

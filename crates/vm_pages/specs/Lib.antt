@@ -1,3 +1,4 @@
 pub mod Pages
 pub mod Blocks
+pub mod Words
 pub mod Extremes

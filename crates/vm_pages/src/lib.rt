@@ -2,5 +2,6 @@
 #![tactic(auto)]
 
 pub mod page_set;
+mod words;
 
 pub use page_set::PageSet;

@@ -2,38 +2,44 @@ ghost use Rattle.std.specs.Prelude.{◌≡◌, ◌+◌, ◌*◌, ◌^◌, ◌<�
 ghost use Rattle.vm_pages.specs.Pages.{no_pages, contains, insert, remove, count, count_below, members};
 ghost use Rattle.vm_pages.specs.Blocks.{AreCounted};
 ghost use Rattle.vm_pages.specs.Extremes.{greatest_from, least_below};
+ghost use Rattle.vm_pages.specs.Words.{marked};
 
+use crate::words::{WORD_PAGES, is_marked, mark, unmark, word_of};
 use std::alloc::{AllocError, Global};
 use std::marker::Model;
 
 // The pages of a block, which has a count of its own.
 const BLOCK_PAGES: usize = 256;
 
+// The words of a block.
+const BLOCK_WORDS: usize = BLOCK_PAGES / WORD_PAGES;
+
 /// A set of the pages of a guest, which finds its k-th page in rising order.
 ///
 /// A contract sees it as a list of one flag for each page, and the words for such a list (`contains`, `insert`, `members`..)
 /// stand in `specs/Pages.antt`. No call but [`PageSet::new`] takes memory.
 ///
-/// It keeps one mark for each page and one count for each block of 256 pages. So [`PageSet::nth`] passes over the counts and
-/// then over one block, [`PageSet::list_greatest`] and [`PageSet::list_least`] pass over the counts and over the blocks of the
-/// pages that they list, and all other calls take constant time.
+/// It keeps one bit for each page and one count for each block of 256 pages. So [`PageSet::nth`] passes over the counts and
+/// then over the four words of one block and the bits of one word, [`PageSet::list_greatest`] and [`PageSet::list_least`] pass
+/// over the counts and over the blocks of the pages that they list, and all other calls take constant time.
 #[derive(Drop)]
 pub struct PageSet {
     // How many pages are in the set, in front, since mostly no more is looked at.
     len: u32,
-    marks: Vec<bool>,
+    size: u32,
+    words: Vec<u64>,
     counts: Vec<u32>,
 }
 
 impl Model for PageSet {
     ghost use Rattle.std.specs.Prelude.{List, Bool};
-    ghost use Rattle.vm_pages.specs.Blocks.{AreCounted};
+    ghost use Rattle.vm_pages.specs.Words.{marked, AreKept};
 
     ghost Value = { List Bool };
 
-    ghost view = { λ s. s.marks.items };
+    ghost view = { λ s. marked s.words.items s.size };
 
-    ghost invariant = { λ s. AreCounted s.marks.items s.counts.items s.len };
+    ghost invariant = { λ s. AreKept s.words.items s.size s.counts.items s.len };
 }
 
 // So many times the same item. Memory is wanted only for some.
@@ -55,13 +61,13 @@ impl PageSet {
         ensures memory { OnErr result (0 < size) }
     {
         let pages = size as usize;
-        let blocks = pages.div_ceil(BLOCK_PAGES);
-        let marks = filled(alloc, pages, false)?;
-        let counts = filled(alloc, blocks, 0)?;
+        let words = filled(alloc, pages.div_ceil(WORD_PAGES), 0)?;
+        let counts = filled(alloc, pages.div_ceil(BLOCK_PAGES), 0)?;
         Ok(PageSet {
-            marks,
-            counts,
             len: 0,
+            size,
+            words,
+            counts,
         })
     }
 
@@ -73,10 +79,10 @@ impl PageSet {
         ensures size { length self.new ≡ length self.old }
     {
         let page = page as usize;
-        if self.marks[page] {
+        if is_marked(&self.words, page) {
             return false;
         }
-        self.marks[page] = true;
+        mark(&mut self.words, page);
         self.counts[page / BLOCK_PAGES] += 1;
         self.len += 1;
         true
@@ -90,10 +96,10 @@ impl PageSet {
         ensures size { length self.new ≡ length self.old }
     {
         let page = page as usize;
-        if !self.marks[page] {
+        if !is_marked(&self.words, page) {
             return false;
         }
-        self.marks[page] = false;
+        unmark(&mut self.words, page);
         self.counts[page / BLOCK_PAGES] -= 1;
         self.len -= 1;
         true
@@ -104,7 +110,7 @@ impl PageSet {
         requires { page < length self.now }
         ensures { result ≡ contains self.now page }
     {
-        self.marks[page as usize]
+        is_marked(&self.words, page as usize)
     }
 
     /// How many pages are in the set.
@@ -128,8 +134,10 @@ impl PageSet {
         ensures in_range { result < length self.now }
         ensures there { IsTrue (contains self.now result) }
     {
+        let pages = self.size as usize;
         let (block, left) = block_of(&self.counts, k);
-        nth_from(&self.marks, block * BLOCK_PAGES, left) as u32
+        let (word, left) = word_of(&self.words, pages, block * BLOCK_WORDS, left);
+        nth_from(&self.words, pages, word * WORD_PAGES, left) as u32
     }
 
     /// Makes `pages` the list of the greatest pages of the set, at most `most` of them, greatest first, in the room that
@@ -144,7 +152,13 @@ impl PageSet {
         ensures room { vec_capacity pages.new ≡ vec_capacity pages.old }
     {
         pages.clear();
-        list_greatest_of(&self.counts, &self.marks, most as usize, pages);
+        list_greatest_of(
+            &self.counts,
+            &self.words,
+            self.size as usize,
+            most as usize,
+            pages,
+        );
     }
 
     /// Makes `pages` the list of the least pages of the set, at most `most` of them, least first, in the room that `pages` has.
@@ -159,7 +173,13 @@ impl PageSet {
         ensures room { vec_capacity pages.new ≡ vec_capacity pages.old }
     {
         pages.clear();
-        list_least_of(&self.counts, &self.marks, most as usize, pages);
+        list_least_of(
+            &self.counts,
+            &self.words,
+            self.size as usize,
+            most as usize,
+            pages,
+        );
     }
 }
 
@@ -181,15 +201,16 @@ fn block_of(counts: &[u32], k: u32) -> (usize, u32)
 }
 
 // The marked page from `start` on before which `k` marked ones stand there.
-fn nth_from(marks: &[bool], start: usize, k: u32) -> usize
-    requires { count_below marks.now start + k < count marks.now }
-    ensures in_range { result < length marks.now }
-    ensures marked { IsTrue (contains marks.now result) }
-    ensures listed { result ≡ slice_index (members marks.now) (count_below marks.now start + k) }
+fn nth_from(words: &[u64], pages: usize, start: usize, k: u32) -> usize
+    requires marks { pages ≤ length words.now * 64 }
+    requires there { count_below (marked words.now pages) start + k < count (marked words.now pages) }
+    ensures in_range { result < pages }
+    ensures there { IsTrue (contains (marked words.now pages) result) }
+    ensures listed { result ≡ slice_index (members (marked words.now pages)) (count_below (marked words.now pages) start + k) }
 {
     let mut left = k;
-    for page in start..marks.len() {
-        if marks[page] {
+    for page in start..pages {
+        if is_marked(words, page) {
             if left == 0 {
                 return page;
             }
@@ -200,79 +221,83 @@ fn nth_from(marks: &[bool], start: usize, k: u32) -> usize
 }
 
 // Lists the greatest pages, block by block from the last one down.
-fn list_greatest_of(counts: &[u32], marks: &[bool], most: usize, pages: &mut Vec<u32>)
-    requires counted { AreCounted marks.now counts.now (count marks.now) }
-    requires empty { pages.old.items ≡ [] }
-    requires room { most ≤ vec_capacity pages.old }
-    ensures listed { pages.new.items ≡ take most (reverse (members marks.now)) }
-    ensures room { vec_capacity pages.new ≡ vec_capacity pages.old }
+fn list_greatest_of(counts: &[u32], words: &[u64], pages: usize, most: usize, list: &mut Vec<u32>)
+    requires marks { pages ≤ length words.now * 64 }
+    requires counted { AreCounted (marked words.now pages) counts.now (count (marked words.now pages)) }
+    requires empty { list.old.items ≡ [] }
+    requires room { most ≤ vec_capacity list.old }
+    ensures listed { list.new.items ≡ take most (reverse (members (marked words.now pages))) }
+    ensures room { vec_capacity list.new ≡ vec_capacity list.old }
 {
     for block in (0..counts.len()).rev() {
-        if pages.len() >= most {
+        if list.len() >= most {
             return;
         }
         if counts[block] > 0 {
-            list_block_down(marks, block, most, pages);
+            list_block_down(words, pages, block, most, list);
         }
     }
 }
 
 // Adds the pages of a block to a list of the greatest ones, until it has `most`.
-fn list_block_down(marks: &[bool], block: usize, most: usize, pages: &mut Vec<u32>)
-    requires fits { length marks.now < 2 ^ 32 }
-    requires within { block * 256 < length marks.now }
-    requires before { pages.old.items ≡ greatest_from marks.now ((block + 1) * 256) most }
-    requires room { most ≤ vec_capacity pages.old }
-    ensures after { pages.new.items ≡ greatest_from marks.now (block * 256) most }
-    ensures room { vec_capacity pages.new ≡ vec_capacity pages.old }
+fn list_block_down(words: &[u64], pages: usize, block: usize, most: usize, list: &mut Vec<u32>)
+    requires marks { pages ≤ length words.now * 64 }
+    requires fits { pages < 2 ^ 32 }
+    requires within { block * 256 < pages }
+    requires before { list.old.items ≡ greatest_from (marked words.now pages) ((block + 1) * 256) most }
+    requires room { most ≤ vec_capacity list.old }
+    ensures after { list.new.items ≡ greatest_from (marked words.now pages) (block * 256) most }
+    ensures room { vec_capacity list.new ≡ vec_capacity list.old }
 {
     let start = block * BLOCK_PAGES;
-    let end = marks.len().min(start + BLOCK_PAGES);
+    let end = pages.min(start + BLOCK_PAGES);
     for page in (start..end).rev() {
-        if pages.len() >= most {
+        if list.len() >= most {
             return;
         }
-        if marks[page] {
-            pages.push_reserved(page as u32);
+        if is_marked(words, page) {
+            list.push_reserved(page as u32);
         }
     }
 }
 
 // Lists the least pages, block by block from the first one up.
-fn list_least_of(counts: &[u32], marks: &[bool], most: usize, pages: &mut Vec<u32>)
-    requires counted { AreCounted marks.now counts.now (count marks.now) }
-    requires empty { pages.old.items ≡ [] }
-    requires room { most ≤ vec_capacity pages.old }
-    ensures listed { pages.new.items ≡ take most (members marks.now) }
-    ensures room { vec_capacity pages.new ≡ vec_capacity pages.old }
+fn list_least_of(counts: &[u32], words: &[u64], pages: usize, most: usize, list: &mut Vec<u32>)
+    requires marks { pages ≤ length words.now * 64 }
+    requires counted { AreCounted (marked words.now pages) counts.now (count (marked words.now pages)) }
+    requires empty { list.old.items ≡ [] }
+    requires room { most ≤ vec_capacity list.old }
+    ensures listed { list.new.items ≡ take most (members (marked words.now pages)) }
+    ensures room { vec_capacity list.new ≡ vec_capacity list.old }
 {
     for (block, &count) in counts.iter().enumerate() {
-        if pages.len() >= most {
+        if list.len() >= most {
             return;
         }
         if count > 0 {
-            list_block_up(marks, block, most, pages);
+            list_block_up(words, pages, block, most, list);
         }
     }
 }
 
 // Adds the pages of a block to a list of the least ones, until it has `most`.
-fn list_block_up(marks: &[bool], block: usize, most: usize, pages: &mut Vec<u32>)
-    requires fits { length marks.now < 2 ^ 32 }
-    requires within { block * 256 < length marks.now }
-    requires before { pages.old.items ≡ least_below marks.now (block * 256) most }
-    requires room { most ≤ vec_capacity pages.old }
-    ensures after { pages.new.items ≡ least_below marks.now ((block + 1) * 256) most }
-    ensures room { vec_capacity pages.new ≡ vec_capacity pages.old }
+fn list_block_up(words: &[u64], pages: usize, block: usize, most: usize, list: &mut Vec<u32>)
+    requires marks { pages ≤ length words.now * 64 }
+    requires fits { pages < 2 ^ 32 }
+    requires within { block * 256 < pages }
+    requires before { list.old.items ≡ least_below (marked words.now pages) (block * 256) most }
+    requires room { most ≤ vec_capacity list.old }
+    ensures after { list.new.items ≡ least_below (marked words.now pages) ((block + 1) * 256) most }
+    ensures room { vec_capacity list.new ≡ vec_capacity list.old }
 {
     let start = block * BLOCK_PAGES;
-    let end = marks.len().min(start + BLOCK_PAGES);
+    let end = pages.min(start + BLOCK_PAGES);
     for page in start..end {
-        if pages.len() >= most {
+        if list.len() >= most {
             return;
         }
-        if marks[page] {
-            pages.push_reserved(page as u32);
+        if is_marked(words, page) {
+            list.push_reserved(page as u32);
         }
     }
 }

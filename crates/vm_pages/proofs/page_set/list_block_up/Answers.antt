@@ -1,7 +1,9 @@
 use Rattle.std.proofs.Common.{[], ◌∷◌, ◌++◌, sym, ap, ◌∙◌, arith}
+use Rattle.vm_pages.specs.Words.{marked}
 use Rattle.vm_pages.proofs.ExtremeLemmas.{least_below-within, least_below-marked, least_below-unmarked, least_below-full}
+use Rattle.vm_pages.proofs.WordLemmas.{length-marked, contains-marked}
 use Rattle.vm_pages.proofs.page_set.list_block_up.Goals as goal
-use Rattle.vm_pages.proofs.page_set.list_block_up.Goals.{then-marks-page, else-marks-page}
+use Rattle.vm_pages.proofs.page_set.list_block_up.Goals.{then-is_marked, else-is_marked}
 
 pub returns-then-len-most-clause-after : goal.returns-then-len-most-clause-after
 returns-then-len-most-clause-after c =
@@ -11,20 +13,21 @@ returns-then-len-most-clause-after c =
 pub loop-page-preserved : goal.loop-page-preserved
 loop-page-preserved c =
     let invariant = c.loop-page.invariant in
-    elim c.if-marks-page.branch [
-      | then-marks-page w ↦ record {
+    let there = contains-marked c.args.words.now c.args.pages c.loop-page.page (omega arith) in
+    elim c.if-is_marked.branch [
+      | then-is_marked w ↦ record {
         listed =
-            ap (λ v. v.items) w.pages-is
+            ap (λ v. v.items) w.list-is
             ∙ w.push_reserved.ensures.items
             ∙ ap (λ l. l ++ c.loop-page.page ∷ []) invariant.listed
-            ∙ sym (least_below-marked _ _ _ (omega arith) w.if-marks-page.true (rw (← invariant.listed) (omega arith)));
-        room = cc (w.push_reserved.ensures.capacity, invariant.room, w.pages-is);
+            ∙ sym (least_below-marked (marked c.args.words.now c.args.pages) _ _ (omega (arith, length-marked c.args.words.now c.args.pages)) (there ∙ sym c.is_marked.ensures ∙ w.if-is_marked.true) (rw (← invariant.listed) (omega arith)));
+        room = cc (w.push_reserved.ensures.capacity, invariant.room, w.list-is);
       }
-      | else-marks-page w ↦ record {
-        listed = ap (λ v. v.items) w.pages-is ∙ invariant.listed ∙ sym (least_below-unmarked _ _ _ (omega arith) w.if-marks-page.false);
-        room = cc (invariant.room, w.pages-is);
+      | else-is_marked w ↦ record {
+        listed = ap (λ v. v.items) w.list-is ∙ invariant.listed ∙ sym (least_below-unmarked (marked c.args.words.now c.args.pages) _ _ (omega (arith, length-marked c.args.words.now c.args.pages)) (there ∙ sym c.is_marked.ensures ∙ w.if-is_marked.false));
+        room = cc (invariant.room, w.list-is);
       }
     ]
 
 pub returns-clause-after : goal.returns-clause-after
-returns-clause-after c = c.loop-page.invariant.listed ∙ least_below-within _ _ _ _ (omega arith)
+returns-clause-after c = c.loop-page.invariant.listed ∙ least_below-within (marked c.args.words.now c.args.pages) _ _ _ (omega (arith, length-marked c.args.words.now c.args.pages))

@@ -1,8 +1,46 @@
+use Rattle.std.proofs.Common.{refl, sym, ◌∙◌, arith}
+use Rattle.vm_pages.specs.Words.{marked}
 use Rattle.vm_pages.proofs.BlockLemmas.{removed}
+use Rattle.vm_pages.proofs.PageSets.{count-positive, remove-absent}
+use Rattle.vm_pages.proofs.WordLemmas.{has_word, read-marked, written_back, AreKept-after}
 use Rattle.vm_pages.proofs.page_set.PageSet.remove.Goals as goal
 
+pub is_marked-requires : goal.is_marked-requires
+is_marked-requires c = rw c.deref.ensures.value (has_word _ _ _ c.self.invariant.marks (rw (← c.self.view_is) at c.requires))
+
+pub returns-then-not-is_marked-clause-removed : goal.returns-then-not-is_marked-clause-removed
+returns-then-not-is_marked-clause-removed c =
+    let absent = read-marked _ _ _ _ (rw (← c.self.view_is) at c.requires) (rw c.deref.ensures.value at c.is_marked.ensures) ∙ c.if-not-is_marked.true in
+    rw (← c.self.view_is, absent) refl
+
+pub returns-then-not-is_marked-clause-after : goal.returns-then-not-is_marked-clause-after
+returns-then-not-is_marked-clause-after c =
+    let absent = read-marked _ _ _ _ (rw (← c.self.view_is) at c.requires) (rw c.deref.ensures.value at c.is_marked.ensures) ∙ c.if-not-is_marked.true in
+    rw (← c.self.view_is) (sym (remove-absent _ _ absent))
+
+pub unmark-requires : goal.unmark-requires
+unmark-requires c = rw c.deref_mut.ensures.value (has_word _ _ _ c.self.invariant.marks (rw (← c.self.view_is) at c.requires))
+
 pub overflow_sub-index_mut : goal.overflow_sub-index_mut
-overflow_sub-index_mut c = (removed _ _ _ _ _ _ c.self.invariant (rw (← c.self.view_is) at c.requires) c.index.ensures c.if-not-index.false c.index_mut-2.ensures.value).counts_it
+overflow_sub-index_mut c =
+    let there = read-marked _ _ _ _ (rw (← c.self.view_is) at c.requires) (rw c.deref.ensures.value at c.is_marked.ensures) ∙ c.if-not-is_marked.false in
+    (removed _ _ _ _ _ c.self.invariant.counted (rw (← c.self.view_is) at c.requires) there c.index_mut.ensures.value).counts_it
+
+pub overflow_sub-self : goal.overflow_sub-self
+overflow_sub-self c =
+    let there = read-marked _ _ _ _ (rw (← c.self.view_is) at c.requires) (rw c.deref.ensures.value at c.is_marked.ensures) ∙ c.if-not-is_marked.false in
+    omega (arith, c.self.invariant.counted.all, count-positive (marked c.self.inside.words.items c.self.inside.size) c.args.page there)
 
 pub invariant_of-self : goal.invariant_of-self
-invariant_of-self c = (removed _ _ _ _ _ _ c.self.invariant (rw (← c.self.view_is) at c.requires) c.index.ensures c.if-not-index.false c.index_mut-2.ensures.value).counted
+invariant_of-self c =
+    let there = read-marked _ _ _ _ (rw (← c.self.view_is) at c.requires) (rw c.deref.ensures.value at c.is_marked.ensures) ∙ c.if-not-is_marked.false in
+    let counted = (removed _ _ _ _ _ c.self.invariant.counted (rw (← c.self.view_is) at c.requires) there c.index_mut.ensures.value).counted in
+    let same = rw c.deref_mut.ensures.value at c.unmark.ensures.length in
+    let after = rw c.deref_mut.ensures.value at (c.unmark.ensures.after c.self.inside.size) in
+    rw (written_back c.self.inside.words.len c.unmark.new.words c.self.inside.words.items (omega (arith, same, c.self.inside.words.ok)))
+    (AreKept-after _ _ _ _ _ _ c.self.invariant.marks same after counted)
+
+pub returns-clause-removed : goal.returns-clause-removed
+returns-clause-removed c =
+    let there = read-marked _ _ _ _ (rw (← c.self.view_is) at c.requires) (rw c.deref.ensures.value at c.is_marked.ensures) ∙ c.if-not-is_marked.false in
+    rw (← c.self.view_is, there) refl
