@@ -170,6 +170,31 @@ parted_traded capacity whole few page other bytes kept there none =
     (ap (λ m. get m other) pages ∙ get-remove-absent (merged whole.values few.values) page other none)
     (rw pages (room_after capacity (merged whole.values few.values) page kept.within (there_whole whole.values few.values page there)))
 
+-- ---- a page of few bytes for another
+
+-- nothing goes from the whole ones where the page is none of them
+whole_stays : (whole : TableView (List ℕ)) (page : ℕ) → get whole.values page ≡ None → record whole { values = remove whole.values page } ≡ whole
+whole_stays whole page none = λ i. record { values = remove-absent whole.values page none i; room = whole.room }
+
+pub traded_few_pages : (whole : Whole) (few : Few) (page other : ℕ) (writes : List ByteWrite) → get whole page ≡ None → get whole other ≡ None
+    → merged whole (insert (remove few page) other writes) ≡ insert (remove (merged whole few) page) other (patched zero_bytes writes)
+traded_few_pages whole few page other writes none absent =
+    merged-insert_few whole (remove few page) other writes absent
+    ∙ ap (λ w. insert (merged w (remove few page)) other (patched zero_bytes writes)) (sym (remove-absent whole page none))
+    ∙ ap (λ m. insert m other (patched zero_bytes writes)) (merged-remove whole few page)
+
+pub parted_traded_few : (capacity : ℕ) (whole : TableView (List ℕ)) (few : TableView (List ByteWrite)) (page other : ℕ) (writes : List ByteWrite) → IsParted capacity whole few → is_some (get few.values page) ≡ true → get (merged whole.values few.values) other ≡ None
+    → IsParted capacity whole (record few { values = insert (remove few.values page) other writes })
+parted_traded_few capacity whole few page other writes kept there none =
+    let gone = few_alone capacity whole few page kept there in
+    let without : IsParted capacity whole (record few { values = remove few.values page }) =
+    subst (λ (w : TableView (List ℕ)). IsParted capacity w (record few { values = remove few.values page })) (whole_stays whole page gone) (parted_without capacity whole few page kept) in
+    let pages : merged whole.values (remove few.values page) ≡ remove (merged whole.values few.values) page =
+    ap (λ w. merged w (remove few.values page)) (sym (remove-absent whole.values page gone)) ∙ merged-remove whole.values few.values page in
+    parted_few capacity whole (record few { values = remove few.values page }) other writes without
+    (ap (λ m. get m other) pages ∙ get-remove-absent (merged whole.values few.values) page other none)
+    (rw pages (room_after capacity (merged whole.values few.values) page kept.within (there_few whole.values few.values page there)))
+
 -- ---- no page
 
 pub parted_empty : (capacity : ℕ) (whole : TableView (List ℕ)) (few : TableView (List ByteWrite)) → whole.values ≡ empty → few.values ≡ empty → capacity < 2 ^ 32 → min capacity 262144 ≤ whole.room → min capacity 262144 ≤ few.room → IsParted capacity whole few

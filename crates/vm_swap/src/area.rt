@@ -143,10 +143,7 @@ impl SwapArea {
         ensures frame { frame.new ≡ record frame.old { bytes = unwrap_or (map.get self.old.pages page) zero_bytes } }
     {
         match frame.take_patch() {
-            Some(patch) => {
-                self.load(page, frame);
-                self.put_few(other, patch);
-            }
+            Some(patch) => self.trade_few(page, other, patch, frame),
             None => self.trade_whole(page, other, frame),
         }
     }
@@ -205,6 +202,46 @@ impl SwapArea {
         ensures { self.new ≡ record self.old { pages = map.insert self.old.pages page (patched zero_bytes patch) } }
     {
         self.few.insert(page, patch);
+    }
+
+    // The trade, where the page that goes out does so as what was written to zeros.
+    fn trade_few(&mut self, page: u32, other: u32, patch: Patch, frame: &mut PatchedFrame)
+        requires in_range { other < PAGE_LIMIT }
+        requires absent { map.get self.old.pages other ≡ None }
+        requires room { map.len (map.remove self.old.pages page) < self.old.capacity }
+        ensures area { self.new ≡ record self.old { pages = map.insert (map.remove self.old.pages page) other (patched zero_bytes patch) } }
+        ensures frame { frame.new ≡ record frame.old { bytes = unwrap_or (map.get self.old.pages page) zero_bytes } }
+    {
+        if let Some(patch) = self.trade_patches(page, other, patch, frame) {
+            self.load(page, frame);
+            self.put_few(other, patch);
+        }
+    }
+
+    // The trade, where the page that comes in is kept as what was written to zeros too: then it gives its slot to the other. Else nothing
+    // changes, and the patch comes back.
+    fn trade_patches(
+        &mut self,
+        page: u32,
+        other: u32,
+        patch: Patch,
+        frame: &mut PatchedFrame,
+    ) -> Option<Patch>
+        requires in_range { other < PAGE_LIMIT }
+        requires absent { map.get self.old.pages other ≡ None }
+        ensures area { IfNone result (self.new ≡ record self.old { pages = map.insert (map.remove self.old.pages page) other (patched zero_bytes patch) }) }
+        ensures frame { IfNone result (frame.new ≡ record frame.old { bytes = unwrap_or (map.get self.old.pages page) zero_bytes }) }
+        ensures back { IfSome result (λ back. back ≡ patch) }
+        ensures same { IfSome result (λ back. self.new ≡ self.old) }
+        ensures same_frame { IfSome result (λ back. frame.new ≡ frame.old) }
+    {
+        match self.few.hand_over(page, other, patch) {
+            Ok(patch) => {
+                frame.set_patch(patch);
+                None
+            }
+            Err(patch) => Some(patch),
+        }
     }
 
     // The trade, where the page that goes out does so as all its bytes.

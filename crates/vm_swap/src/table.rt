@@ -1,9 +1,10 @@
-ghost use Rattle.std.specs.Prelude.{◌≡◌, ℕ, true, ◌+◌, ◌<◌, ◌≤◌, ◌==◌, if◌then◌else◌, min, Some, None, IfSome, IfOk, OnOk, OnErr, get_or, option_copied, vec_len, vec_capacity};
+ghost use Rattle.std.specs.Prelude.{◌≡◌, ℕ, true, ◌+◌, ◌<◌, ◌≤◌, ◌==◌, if◌then◌else◌, min, Some, None, IfSome, IfOk, IfErr, OnOk, OnErr, get_or, option_copied, vec_len, vec_capacity};
 ghost use Rattle.std.specs.Bool.{OnTrue, OnFalse};
 ghost use Rattle.std.specs.FinMap as map;
 
 use std::alloc::{AllocError, Global};
 use std::marker::Model;
+use std::mem;
 use vm_patches::PatchedFrame;
 
 /// The bytes of a page of guest memory.
@@ -109,6 +110,29 @@ impl<V: Drop> Table<V> {
         let slot = self.slots.len() as u32;
         self.slots.push_reserved(Slot { page, value });
         note_slot(&mut self.index, page, slot);
+    }
+
+    // Gives the slot of a page to another one that has none, with that one's value, and answers the value that was there. Where the page
+    // has no slot, nothing changes, and the other's value comes back.
+    pub(crate) fn hand_over(&mut self, page: u32, other: u32, value: V) -> Result<V, V>
+        requires in_range { other < PAGE_LIMIT }
+        requires absent { map.get self.old.values other ≡ None }
+        ensures taken { IfOk result (λ taken. map.get self.old.values page ≡ Some taken) }
+        ensures given { OnOk result (self.new ≡ record self.old { values = map.insert (map.remove self.old.values page) other value }) }
+        ensures absent { OnErr result (map.get self.old.values page ≡ None) }
+        ensures back { IfErr result (λ back. back ≡ value) }
+        ensures same { OnErr result (self.new ≡ self.old) }
+    {
+        match slot_of(&self.index, page) {
+            Some(slot) => {
+                let given = Slot { page: other, value };
+                let Slot { page: _, value } = mem::replace(&mut self.slots[slot], given);
+                self.index[page as usize] = None;
+                note_slot(&mut self.index, other, slot as u32);
+                Ok(value)
+            }
+            None => Err(value),
+        }
     }
 
     // Lets the value of a page go, and answers whether it had one. Where it had none, nothing of a value's size is copied.
