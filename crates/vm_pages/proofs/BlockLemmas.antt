@@ -1,11 +1,11 @@
 -- The counts of the blocks, after one flag has changed.
-use Rattle.std.proofs.Common.{◌≡◌, ℕ, zero, suc, ◌+◌, ◌-◌, ◌*◌, ◌/◌, ◌^◌, ◌<◌, ◌≤◌, Bool, true, false, cond, List, length, take, set, get_or, replicate, sum, Fits, w32, refl, ap, inl, inr, add-one, arith}
-use Rattle.std.proofs.lemmas.List.{take_all, get_or_read, length-set, length-replicate, get_or-set_other, get_or-set_same, get_or-replicate}
+use Rattle.std.proofs.Common.{◌≡◌, ℕ, zero, suc, ◌+◌, ◌-◌, ◌*◌, ◌/◌, ◌%◌, ◌^◌, min, ◌<◌, ◌≤◌, Bool, true, false, cond, List, length, take, set, get_or, replicate, sum, Fits, w32, refl, sym, ap, ◌∙◌, inl, inr, add-one, arith}
+use Rattle.std.proofs.lemmas.List.{take_all, take-replicate, get_or_read, length-set, length-replicate, get_or-set_other, get_or-set_same, get_or-replicate}
 use Rattle.std.proofs.lemmas.Bool.{cases_eq, cases_lt}
 use Rattle.std.proofs.lemmas.List.Sums.{sum_by_more, sum_by-set, sum_by-take-le, get_or-le-sum_by}
-use Rattle.vm_pages.specs.Pages.{no_pages, count, count_below}
+use Rattle.vm_pages.specs.Pages.{no_pages, all_pages, count, count_below}
 use Rattle.vm_pages.specs.Blocks.{AreCounted}
-use Rattle.vm_pages.proofs.PageSets.{count-lt-length, count-no_pages, length-no_pages}
+use Rattle.vm_pages.proofs.PageSets.{count-lt-length, count-no_pages, count-all_pages, length-no_pages, length-all_pages}
 use Rattle.vm_pages.proofs.Listings.{count_below-set, count_below-set_before, count_below_mono, count_below_all}
 
 abbrev weight : Bool → ℕ
@@ -126,3 +126,39 @@ AreCounted-none size blocks cover few fits = record {
   where
     none_below : (page : ℕ) → count_below (no_pages size) page ≡ 0
     none_below page = omega (arith, sum_by-take-le weight (no_pages size) page, count-no_pages size)
+
+-- the set of all pages, each block of which has 256 but for the last one where the pages don't fill it
+AreCounted-all : (size : ℕ) (counts : List ℕ) → size ≤ length counts * 256 → length counts ≤ size → size < 2 ^ 32
+    → ((block : ℕ) → block < length counts → get_or counts block 0 ≡ min 256 (size - block * 256)) → AreCounted (all_pages size) counts size
+AreCounted-all size counts cover few fits each = record {
+  blocks = omega (arith, cover, length-all_pages size);
+  few = omega (arith, few, length-all_pages size);
+  each = λ block within. omega (arith, below (block * 256), below ((block + 1) * 256), each block within);
+  all = sym (count-all_pages size);
+  fits = omega (arith, fits, length-all_pages size);
+}
+  where
+    below : (page : ℕ) → count_below (all_pages size) page ≡ min page size
+    below page =
+        elim (cases_lt page size) [
+          | inl before ↦ ap count (take-replicate page size true (omega arith)) ∙ count-all_pages page ∙ omega arith
+          | inr past ↦ count_below_all (all_pages size) page (omega (arith, length-all_pages size)) ∙ count-all_pages size ∙ omega arith
+        ]
+
+pub AreCounted-all_filled : (size blocks : ℕ) → size % 256 ≡ 0 → blocks * 256 ≡ size → size < 2 ^ 32 → AreCounted (all_pages size) (replicate blocks 256) size
+AreCounted-all_filled size blocks full is fits =
+    AreCounted-all size (replicate blocks 256) (omega (arith, length-replicate {A = ℕ} blocks 256)) (omega (arith, length-replicate {A = ℕ} blocks 256)) fits
+    (λ block within. let there : block < blocks = omega (arith, length-replicate {A = ℕ} blocks 256) in omega (arith, get_or-replicate {A = ℕ} blocks block 256 0 there))
+
+pub AreCounted-all_rest : (size blocks : ℕ) → 0 < size % 256 → blocks ≡ size / 256 + 1 → size < 2 ^ 32 → AreCounted (all_pages size) (set (replicate blocks 256) (size / 256) (size % 256)) size
+AreCounted-all_rest size blocks rest is fits =
+    AreCounted-all size (set (replicate blocks 256) (size / 256) (size % 256)) (omega (arith, long, is)) (omega (arith, long, is, rest)) fits
+    (λ block within. elim (cases_eq block (size / 256)) [
+      | inl last ↦ rw last (get_or-set_same (replicate blocks 256) (size / 256) (size % 256) 0 (omega (arith, is, length-replicate {A = ℕ} blocks 256)) ∙ omega arith)
+      | inr before ↦
+          let there : block < blocks = omega (arith, long, within) in
+          get_or-set_other (replicate blocks 256) (size / 256) block (size % 256) 0 before ∙ get_or-replicate {A = ℕ} blocks block 256 0 there ∙ omega (arith, is, before, there)
+    ])
+  where
+    long : length (set (replicate blocks 256) (size / 256) (size % 256)) ≡ blocks
+    long = length-set (replicate blocks 256) (size / 256) (size % 256) ∙ length-replicate {A = ℕ} blocks 256

@@ -3,7 +3,7 @@ use Rattle.std.proofs.Common.{◌≡◌, ◌≢◌, ℕ, zero, suc, ◌+◌, ◌
 use Rattle.std.proofs.lemmas.List.{length-set, length-replicate, set-get_or, get_or_past, get_or-set_same, get_or-set_other, get_or-replicate}
 use Rattle.std.proofs.lemmas.Bool.{cases_eq, cases_lt}
 use Rattle.std.proofs.lemmas.List.Sums.{sum_by-cons, sum_by-set, count_by-le-length}
-use Rattle.vm_pages.specs.Pages.{no_pages, contains, insert, remove, insert_all, remove_all, count}
+use Rattle.vm_pages.specs.Pages.{no_pages, all_pages, contains, insert, remove, insert_all, remove_all, count}
 
 -- a change keeps the guest's size
 pub length-insert : (pages : List Bool) (page : ℕ) → length (insert pages page) ≡ length pages
@@ -14,6 +14,9 @@ length-remove pages page = length-set pages page false
 
 pub length-no_pages : (size : ℕ) → length (no_pages size) ≡ size
 length-no_pages size = length-replicate size false
+
+pub length-all_pages : (size : ℕ) → length (all_pages size) ≡ size
+length-all_pages size = length-replicate size true
 
 pub length-insert_all : (pages : List Bool) (added : List ℕ) → length (insert_all pages added) ≡ length pages
 length-insert_all pages [] = refl
@@ -48,6 +51,9 @@ contains-no_pages size page =
       | inl below ↦ get_or-replicate size page false false below
       | inr past ↦ get_or_past (no_pages size) page false (omega (arith, length-no_pages size))
     ]
+
+pub contains-all_pages : (size page : ℕ) → page < size → contains (all_pages size) page ≡ true
+contains-all_pages size page there = get_or-replicate size page true false there
 
 pub contains-insert_same : (pages : List Bool) (page : ℕ) → page < length pages → contains (insert pages page) page ≡ true
 contains-insert_same pages page there = get_or-set_same pages page true false there
@@ -119,6 +125,10 @@ count-cons flag pages = sum_by-cons (λ marked. cond marked 1 0) flag pages
 pub count-no_pages : (size : ℕ) → count (no_pages size) ≡ 0
 count-no_pages zero = refl
 count-no_pages (suc size) = count-no_pages size
+
+pub count-all_pages : (size : ℕ) → count (all_pages size) ≡ size
+count-all_pages zero = refl
+count-all_pages (suc size) = omega (arith, count-cons true (all_pages size), count-all_pages size)
 
 pub count-le-length : (pages : List Bool) → count pages ≤ length pages
 count-le-length pages = count_by-le-length (λ marked. marked) pages

@@ -5,14 +5,14 @@ use Rattle.std.proofs.lemmas.Bool.{cases_eq, cases_lt}
 use Rattle.std.proofs.lemmas.List.{length-set, get_or-set_same, get_or-set_other, get_or-replicate, get_or_past, length-replicate}
 use Rattle.std.proofs.lemmas.List.FromFn.{length-map-range_with_len, get_or-map-range_with_len}
 use Rattle.std.proofs.lemmas.Nat.{ones_cat, mod-pow-add, mod_below, pow_pos, div-add-mod'}
-use Rattle.std.proofs.lemmas.Nat.Bits.{bit_at-zero, bit_at-lt, bit_at_set_same, bit_at_set_other, bit_at_clear_same, bit_at_clear_other}
+use Rattle.std.proofs.lemmas.Nat.Bits.{bit_at-zero, bit_at-lt, bit_at_ones, bit_at_set_same, bit_at_set_other, bit_at_clear_same, bit_at_clear_other}
 use lib.Count.{ones}
-use Rattle.vm_pages.specs.Pages.{no_pages, contains, insert, remove, count, count_below}
+use Rattle.vm_pages.specs.Pages.{no_pages, all_pages, contains, insert, remove, count, count_below}
 use Rattle.std.proofs.Math.Seq.{take-append_seam}
 use Rattle.vm_pages.specs.Blocks.{AreCounted}
 use Rattle.vm_pages.specs.Words.{is_marked, marked, AreKept}
 use Rattle.vm_pages.proofs.BlockLemmas.{AreCounted-none}
-use Rattle.vm_pages.proofs.PageSets.{same_pages, length-no_pages, contains-no_pages}
+use Rattle.vm_pages.proofs.PageSets.{same_pages, length-no_pages, length-all_pages, contains-no_pages, contains-all_pages}
 use Rattle.vm_pages.proofs.Listings.{count_below_more, count_below_all}
 
 pub length-marked : (words : List ℕ) (size : ℕ) → length (marked words size) ≡ size
@@ -38,6 +38,20 @@ pub marked-none : (n size : ℕ) → marked (replicate n 0) size ≡ no_pages si
 marked-none n size =
     same_pages (marked (replicate n 0) size) (no_pages size) (length-marked (replicate n 0) size ∙ sym (length-no_pages size))
     (λ page there. contains-marked (replicate n 0) size page (omega (arith, length-marked (replicate n 0) size)) ∙ unmarked n page ∙ sym (contains-no_pages size page))
+
+-- words of ones mark each page
+pub marked-all : (n size : ℕ) → size ≤ n * 64 → marked (replicate n (2 ^ 64 - 1)) size ≡ all_pages size
+marked-all n size marks =
+    same_pages (marked words size) (all_pages size) (length-marked words size ∙ sym (length-all_pages size))
+    (λ page there. let below : page < size = omega (arith, there, length-marked words size) in contains-marked words size page below ∙ one page below ∙ sym (contains-all_pages size page below))
+  where
+    words : List ℕ
+    words = replicate n (2 ^ 64 - 1)
+
+    one : (page : ℕ) → page < size → is_marked words page ≡ true
+    one page below =
+        ap (λ (word : ℕ). eqb (bit_at word (page % 64)) 1) (get_or-replicate n (page / 64) (2 ^ 64 - 1) 0 (omega (arith, marks, below)))
+        ∙ ap (λ bit. eqb bit 1) (bit_at_ones 64 (page % 64) (omega arith))
 
 -- a word that differs in the bit of one page
 marked-set : (words : List ℕ) (size page word : ℕ) (mark : Bool) → page / 64 < length words
@@ -215,3 +229,10 @@ has_word words size page marks there = omega (arith, marks, there, length-marked
 -- what is read of a page's bit is whether the set has it
 pub read-marked : (words : List ℕ) (size page : ℕ) (mark : Bool) → page < length (marked words size) → mark ≡ is_marked words page → contains (marked words size) page ≡ mark
 read-marked words size page mark there read = contains-marked words size page (omega (arith, there, length-marked words size)) ∙ sym read
+
+-- the set of all pages
+pub AreKept-all : (n size : ℕ) (counts : List ℕ) → size ≤ n * 64 → AreCounted (all_pages size) counts size → AreKept (replicate n (2 ^ 64 - 1)) size counts size
+AreKept-all n size counts marks counted = record {
+  marks = omega (arith, marks, length-replicate {A = ℕ} n (2 ^ 64 - 1));
+  counted = rw (marked-all n size marks) counted;
+}

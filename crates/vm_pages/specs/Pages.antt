@@ -6,6 +6,10 @@ use Rattle.std.specs.Prelude.{ℕ, ◌+◌, Bool, true, false, List, [], ◌∷�
 abbrev pub no_pages : ℕ → List Bool
 no_pages size = replicate size false
 
+-- the set of all pages of a guest of `size` pages
+abbrev pub all_pages : ℕ → List Bool
+all_pages size = replicate size true
+
 -- whether the page is in the set; no page past the guest's size is
 abbrev pub contains : List Bool → ℕ → Bool
 contains pages page = slice_index_or pages page false

@@ -1,5 +1,5 @@
 ghost use Rattle.std.specs.Prelude.{◌≡◌, ◌+◌, ◌*◌, ◌^◌, ◌<◌, ◌≤◌, ◌↔◌, All, [], not, length, reverse, take, sum, slice_index, replicate, vec_capacity, IfOk, IsTrue, OnErr};
-ghost use Rattle.vm_pages.specs.Pages.{no_pages, contains, insert, remove, count, count_below, members};
+ghost use Rattle.vm_pages.specs.Pages.{no_pages, all_pages, contains, insert, remove, count, count_below, members};
 ghost use Rattle.vm_pages.specs.Blocks.{AreCounted};
 ghost use Rattle.vm_pages.specs.Extremes.{greatest_from, least_below};
 ghost use Rattle.vm_pages.specs.Words.{marked};
@@ -17,7 +17,7 @@ const BLOCK_WORDS: usize = BLOCK_PAGES / WORD_PAGES;
 /// A set of the pages of a guest, which finds its k-th page in rising order.
 ///
 /// A contract sees it as a list of one flag for each page, and the words for such a list (`contains`, `insert`, `members`..)
-/// stand in `specs/Pages.antt`. No call but [`PageSet::new`] takes memory.
+/// stand in `specs/Pages.antt`. No call but [`PageSet::new`] and [`PageSet::all`] takes memory.
 ///
 /// It keeps one bit for each page and one count for each block of 256 pages. So [`PageSet::nth`] passes over the counts and
 /// then over the four words of one block and the bits of one word, [`PageSet::list_greatest`] and [`PageSet::list_least`] pass
@@ -65,6 +65,27 @@ impl PageSet {
         let counts = filled(alloc, pages.div_ceil(BLOCK_PAGES), 0)?;
         Ok(PageSet {
             len: 0,
+            size,
+            words,
+            counts,
+        })
+    }
+
+    /// The set of all pages of a guest of `size` pages.
+    ///
+    /// An error says that memory was refused, which is only where there are pages.
+    pub fn all(alloc: Global, size: u32) -> Result<PageSet, AllocError>
+        ensures set { IfOk result (λ s. s ≡ all_pages size) }
+        ensures memory { OnErr result (0 < size) }
+    {
+        let pages = size as usize;
+        let words = filled(alloc, pages.div_ceil(WORD_PAGES), u64::MAX)?;
+        let mut counts = filled(alloc, pages.div_ceil(BLOCK_PAGES), BLOCK_PAGES as u32)?;
+        if pages % BLOCK_PAGES != 0 {
+            counts[pages / BLOCK_PAGES] = (pages % BLOCK_PAGES) as u32;
+        }
+        Ok(PageSet {
+            len: size,
             size,
             words,
             counts,

@@ -61,3 +61,16 @@ fn extremes_are_listed_over_blocks(rt: HostRuntime) {
     check_least(&rt, &set, 8, &mut pages, &[0, 255, 256, 599]);
     check_greatest(&rt, &set, 0, &mut pages, &[]);
 }
+
+#[test]
+fn all_pages_are_there(rt: HostRuntime) {
+    let mut set = PageSet::all(rt.alloc(), 600).expect(&rt, "memory");
+    check_eq(&rt, set.len(), 600);
+    check_eq(&rt, set.insert(599), false);
+    check_eq(&rt, set.remove(598), true);
+    check_eq(&rt, set.remove(256), true);
+    check_eq(&rt, set.len(), 598);
+    let mut pages = Vec::with_capacity(rt.alloc(), 8).expect(&rt, "memory");
+    check_greatest(&rt, &set, 3, &mut pages, &[599, 597, 596]);
+    check_least(&rt, &set, 3, &mut pages, &[0, 1, 2]);
+}
