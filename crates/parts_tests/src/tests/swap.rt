@@ -104,34 +104,6 @@ fn traded_pages(rt: HostRuntime) {
     close_machine(&rt, machine, 1);
 }
 
-// A page of one byte comes in from the only slot that there is, and another one goes out to it.
-fn check_trade_of_few(rt: &impl Abort, area: &mut SwapArea, frame: &mut PatchedFrame)
-    requires absent { map.get area.old.pages 2 ≡ None }
-    requires room { map.len (map.remove area.old.pages 1) < area.old.capacity }
-    ensures { frame.new.number ≡ frame.old.number }
-{
-    area.trade(1, 2, frame);
-    check_frame(rt, frame, 4, [0, 3, 0]);
-    check_byte(rt, area, 2, 9, 4);
-    check_absent(rt, area, 1);
-    check_sizes(rt, area, 1, 1);
-}
-
-#[test]
-#[tactic(auto, using(vm_frames::proofs::NumberSets::set_members))]
-fn traded_pages_of_few_bytes(rt: HostRuntime) {
-    let mut machine = Machine::new(rt.alloc(), 1).expect(&rt, "memory");
-    let mut area = SwapArea::new(rt.alloc(), 1).expect(&rt, "memory");
-    let mut frame = PatchedFrame::new(machine.take().expect(&rt, "a free frame"));
-    frame.write(5, &[3]);
-    let spare = area.save(1, frame);
-    let mut frame = PatchedFrame::new(spare);
-    frame.write(9, &[4]);
-    check_trade_of_few(&rt, &mut area, &mut frame);
-    machine.give(frame.release());
-    close_machine(&rt, machine, 1);
-}
-
 #[test]
 #[tactic(auto, using(vm_frames::proofs::NumberSets::set_members))]
 fn saved_pages(rt: HostRuntime) {
