@@ -97,7 +97,7 @@ full_word w ws h =
     ((let z : length w ≡ 0 → ⊥ = ne in omega arith), parts.1)
 
 -- which queue a letter is
-queue_from : (letter : List ℕ) (queue : Queue) → queue_of letter ≡ Ok queue → letter ≡ letter_of queue
+pub queue_from : (letter : List ℕ) (queue : Queue) → queue_of letter ≡ Ok queue → letter ≡ letter_of queue
 unfolding queue_of
 queue_from letter queue h = elim (chosen (bytes_eq letter (codes "i")) _ _ _ h) [
   | inl i ↦ (bytes_decides letter (codes "i")).0 i.0 ∙ ap letter_of (let e : Inflate ≡ queue = (let z = i.1 in cc) in e)

@@ -6,9 +6,8 @@ ghost use Rattle.vm_trace.specs.Entries.{bytes_of, Keeps};
 ghost use Rattle.vm_trace.specs.Limits.{IsStep, IsWithin};
 ghost use Rattle.vm_trace.specs.Entering.{KeepsHex, LeavesHex, IsEntryOf};
 ghost use Rattle.vm_trace.specs.Sized.{step_in};
-ghost use Rattle.vm_trace.specs.Words.{hex_pairs, is_hex};
 
-use crate::bytes::{Bytes, byte_of, is_hex, pair_of};
+use crate::bytes::{Bytes, pair_of};
 use crate::entry::Entry;
 use crate::error::{PushError, TraceError};
 use crate::parse::parse_step_within;
@@ -54,40 +53,43 @@ fn keep_pair(store: &mut Vec<u8>, high: u8, low: u8) -> Result<Option<u32>, Allo
     Ok(Some(start))
 }
 
-// Puts the bytes that hexadecimal digits spell behind the others and gives their place.
-fn keep_pairs(store: &mut Vec<u8>, digits: &[u8]) -> Result<u32, AllocError>
-    requires { is_hex digits.now ≡ true }
-    ensures place { IfOk result (λ start. start ≡ length store.old.items) }
-    ensures ok { OnOk result (store.new.items ≡ store.old.items ++ hex_pairs digits.now) }
+// Puts the bytes that a text spells in hexadecimal digits behind the others, in one pass, and gives their place; `None` for another
+// text.
+pub(crate) fn keep_pairs(store: &mut Vec<u8>, text: &[u8]) -> Result<Option<u32>, AllocError>
+    ensures kept { IfOk result (λ found. IfSome found (KeepsHex text.now store.old.items store.new.items)) }
+    ensures none { IfOk result (λ found. found ≡ None → LeavesHex text.now store.old.items store.new.items) }
     ensures err { OnErr result (store.new.items ≡ store.old.items) }
 {
+    if text.len() % 2 != 0 {
+        return Ok(None);
+    }
     if !has_place(store) {
         return Err(AllocError);
     }
-    let start = store.len() as u32;
-    let count = digits.len() / 2;
+    let start = store.len();
+    let count = text.len() / 2;
     store.reserve(count)?;
     for i in 0..count {
-        store.push_reserved(byte_of(digits, i));
+        let Some(byte) = pair_of(text[2 * i], text[2 * i + 1]) else {
+            store.truncate(start);
+            return Ok(None);
+        };
+        store.push_reserved(byte);
     }
-    Ok(start)
+    Ok(Some(start as u32))
 }
 
-// Puts the bytes that a text spells in hexadecimal digits behind the others and gives their place; `None` for another text. Most
-// writes have one byte, which is put there in one pass.
+// As `keep_pairs`. Most writes have one byte, for which no room is asked and no loop begun.
 pub(crate) fn keep_hex(store: &mut Vec<u8>, text: &[u8]) -> Result<Option<u32>, AllocError>
     ensures kept { IfOk result (λ found. IfSome found (KeepsHex text.now store.old.items store.new.items)) }
     ensures none { IfOk result (λ found. found ≡ None → LeavesHex text.now store.old.items store.new.items) }
     ensures err { OnErr result (store.new.items ≡ store.old.items) }
 {
     if let [high, low] = *text {
-        return keep_pair(store, high, low);
+        keep_pair(store, high, low)
+    } else {
+        keep_pairs(store, text)
     }
-    if !is_hex(text) {
-        return Ok(None);
-    }
-    let start = keep_pairs(store, text)?;
-    Ok(Some(start))
 }
 
 // The entry of an action, whose bytes it puts behind the others.

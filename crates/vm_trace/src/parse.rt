@@ -197,7 +197,7 @@ fn is_letter(word: &[u8], letter: u8) -> bool
 
 // The queue of a letter.
 #[tactic(auto, unfolding(crate::specs::Meaning::queue_of))]
-fn queue_of(word: &[u8]) -> Result<Queue, TraceError>
+pub(crate) fn queue_of(word: &[u8]) -> Result<Queue, TraceError>
     ensures { result ≡ queue_of word.now }
 {
     if is_letter(word, b'i') {

@@ -1,13 +1,14 @@
-// Reads steps that are spelled plainly, in one pass and without a list of their words: reads and writes whose page has at most 6
-// digits, their offset 4 and their length 2.
+// Reads steps that are spelled plainly, in one pass and without a list of their words: raw buffers, and reads and writes whose page
+// has at most 6 digits, their offset 4 and their length 2.
 ghost use Rattle.std.specs.Prelude.{◌≡◌, ◌≤◌, ℕ, List, ◌∷◌, None, length, true, IfOk, IfSome, OnErr, IsTrue};
 ghost use Rattle.vm_trace.specs.Limits.{IsAccess};
 ghost use Rattle.vm_trace.specs.Spelling.{IsNumeral};
 ghost use Rattle.vm_trace.specs.Entering.{IsDecimal, IsField, IsPlace, IsEntered, IsEnteredAt};
 
-use crate::entering::keep_hex;
+use crate::bytes::MAX_BYTES;
+use crate::entering::{keep_hex, keep_pairs};
 use crate::entry::Entry;
-use crate::parse::{MAX_ACCESS, PAGE_BYTES};
+use crate::parse::{MAX_ACCESS, PAGE_BYTES, queue_of};
 use std::alloc::AllocError;
 
 // The most digits of a page that is read plainly: so many have all pages of the greatest guest.
@@ -149,7 +150,33 @@ fn write(store: &mut Vec<u8>, place: Place<'_>) -> Result<Option<Entry>, AllocEr
     }))
 }
 
-// The entry of a read or a write that is spelled plainly, and `None` for another text, which need not be faulty.
+// The entry of a raw buffer, p QUEUE HEX, whose bytes are put behind the others.
+fn post(store: &mut Vec<u8>, text: &[u8]) -> Result<Option<Entry>, AllocError>
+    ensures entry { IfOk result (λ found. IfSome found (λ entry. (pages : ℕ) → IsEntered pages text.now store.old.items store.new.items entry)) }
+    ensures none { IfOk result (λ found. found ≡ None → store.new.items ≡ store.old.items) }
+    ensures err { OnErr result (store.new.items ≡ store.old.items) }
+{
+    let [b'p', b' ', _, b' ', digits @ ..] = text else {
+        return Ok(None);
+    };
+    let Ok(queue) = queue_of(&text[2..3]) else {
+        return Ok(None);
+    };
+    let len = digits.len() / 2;
+    if len == 0 || len > MAX_BYTES {
+        return Ok(None);
+    }
+    let Some(start) = keep_pairs(store, digits)? else {
+        return Ok(None);
+    };
+    Ok(Some(Entry::Post {
+        queue,
+        start,
+        len: len as u8,
+    }))
+}
+
+// The entry of a step that is spelled plainly, and `None` for another text, which need not be faulty.
 pub(crate) fn plain_entry(
     store: &mut Vec<u8>,
     text: &[u8],
@@ -162,6 +189,9 @@ pub(crate) fn plain_entry(
     let [kind, b' ', rest @ ..] = text else {
         return Ok(None);
     };
+    if *kind == b'p' {
+        return post(store, text);
+    }
     let Some(place) = place_in_front(rest, pages) else {
         return Ok(None);
     };

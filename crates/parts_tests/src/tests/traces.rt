@@ -238,6 +238,11 @@ fn texts_add_other_steps(rt: HostRuntime) {
         bytes: Bytes::from_slice(&[3, 0]),
     };
     check_added(&rt, &mut trace, "p s 0300", post);
+    let mixed = Action::Post {
+        queue: Queue::Inflate,
+        bytes: Bytes::from_slice(&[0xff, 0xfe, 0x07]),
+    };
+    check_added(&rt, &mut trace, "p i FFfe07", mixed);
 }
 
 // Asserts that each of these texts has this fault, for a guest of 8 pages, and adds nothing.
@@ -253,6 +258,8 @@ fn check_refused(rt: &impl Abort, trace: &mut Trace, fault: TraceError, texts: &
 fn check_faulty_words(rt: &impl Abort, trace: &mut Trace) {
     let no_steps = &["", "r 0 0", "r 0 0 1 1", "r  0 0 1", "r 0 0 1 ", "w 0 0 "];
     check_refused(rt, trace, TraceError::Unknown, no_steps);
+    let no_posts = &["p", "p i", "p i ", "p q 00", "p ii 00", "p i 00 "];
+    check_refused(rt, trace, TraceError::Unknown, no_posts);
     let no_numbers = &["r a 0 1", "w 0 00000000000 ff", "r 0 0 +1"];
     check_refused(rt, trace, TraceError::Number, no_numbers);
 }
@@ -269,6 +276,12 @@ fn check_ranges(rt: &impl Abort, trace: &mut Trace) {
 // Asserts the first faults of texts with other bytes than a step may have, which come before a page that isn't the guest's.
 fn check_faulty_bytes(rt: &impl Abort, trace: &mut Trace) {
     check_refused(rt, trace, TraceError::Hex, &["w 8 0 fg", "w 0 0 fff"]);
+    check_refused(
+        rt,
+        trace,
+        TraceError::Hex,
+        &["p i 0", "p i 00000g", "p i g0ff"],
+    );
     let long = &["w 0 0 00112233445566778899aabbccddeeff00"];
     check_refused(rt, trace, TraceError::Length, long);
 }
