@@ -15,11 +15,11 @@ use crate::plain::plain_entry;
 use crate::step::{Action, Step};
 use std::alloc::AllocError;
 
-// Whether the place behind the last byte has 32 bits.
-fn has_place(store: &Vec<u8>) -> bool
-    ensures { IsTrue result ↔ (length store.now.items < 2 ^ 32) }
+// The place behind the last byte, if it has 32 bits.
+fn next_place(store: &Vec<u8>) -> Result<u32, AllocError>
+    ensures place { IfOk result (λ start. start ≡ length store.now.items) }
 {
-    store.len() <= u32::MAX as usize
+    u32::try_from(store.len()).map_err(|_| AllocError)
 }
 
 // Puts the bytes of a step behind the others and gives their place.
@@ -28,10 +28,7 @@ pub(crate) fn keep(store: &mut Vec<u8>, bytes: Bytes) -> Result<u32, AllocError>
     ensures ok { OnOk result (store.new.items ≡ store.old.items ++ bytes) }
     ensures err { OnErr result (store.new.items ≡ store.old.items) }
 {
-    if !has_place(store) {
-        return Err(AllocError);
-    }
-    let start = store.len() as u32;
+    let start = next_place(store)?;
     store.extend_from_slice(bytes.as_slice())?;
     Ok(start)
 }
@@ -45,10 +42,7 @@ fn keep_pair(store: &mut Vec<u8>, high: u8, low: u8) -> Result<Option<u32>, Allo
     let Some(byte) = pair_of(high, low) else {
         return Ok(None);
     };
-    if !has_place(store) {
-        return Err(AllocError);
-    }
-    let start = store.len() as u32;
+    let start = next_place(store)?;
     store.push(byte)?;
     Ok(Some(start))
 }
@@ -63,20 +57,17 @@ pub(crate) fn keep_pairs(store: &mut Vec<u8>, text: &[u8]) -> Result<Option<u32>
     if text.len() % 2 != 0 {
         return Ok(None);
     }
-    if !has_place(store) {
-        return Err(AllocError);
-    }
-    let start = store.len();
+    let start = next_place(store)?;
     let count = text.len() / 2;
     store.reserve(count)?;
     for i in 0..count {
         let Some(byte) = pair_of(text[2 * i], text[2 * i + 1]) else {
-            store.truncate(start);
+            store.truncate(start as usize);
             return Ok(None);
         };
         store.push_reserved(byte);
     }
-    Ok(Some(start as u32))
+    Ok(Some(start))
 }
 
 // As `keep_pairs`. Most writes have one byte, for which no room is asked and no loop begun.
