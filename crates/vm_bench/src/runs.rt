@@ -1,0 +1,68 @@
+//! How a text is run, and its results told.
+use crate::digest::Digest;
+use crate::text::{Draft, Machine, Text};
+use std::alloc::Global;
+use std::thread::Threads;
+use vm_charts::svg_text;
+use vm_series::{Series, collect_series, csv_text};
+use vm_sim::{Open, RunError, Watched, run};
+
+// The report of a text, put into a digest.
+fn report<RT: Threads + Sync>(
+    rt: &RT,
+    alloc: Global,
+    workers: u32,
+    text: &Text,
+    digest: &mut Digest,
+) -> Result<(), RunError> {
+    let mut reader = Watched::new(text.as_bytes());
+    let mut writer = Watched::new(digest);
+    let host = run(rt, alloc, &Open, workers, &mut reader, &mut writer)?;
+    host.close();
+    Ok(())
+}
+
+/// The report of a draft on a machine, put into a digest.
+pub fn report_of<RT: Threads + Sync>(
+    rt: &RT,
+    alloc: Global,
+    workers: u32,
+    machine: &Machine,
+    draft: &Draft,
+    digest: &mut Digest,
+) -> Result<(), RunError> {
+    let text = draft.whole(alloc, machine)?;
+    report(rt, alloc, workers, &text, digest)
+}
+
+// The rows of a series, as comma-separated values and as a drawing, put into a digest.
+fn tell_series(alloc: Global, series: &Series, digest: &mut Digest) -> Result<(), RunError> {
+    let table = csv_text(alloc, series)?;
+    digest.add(table.as_slice());
+    let drawing = svg_text(alloc, series)?;
+    digest.add(drawing.as_slice());
+    Ok(())
+}
+
+// The series of a text, put into a digest.
+fn series<RT: Threads + Sync>(
+    rt: &RT,
+    alloc: Global,
+    text: &Text,
+    digest: &mut Digest,
+) -> Result<(), RunError> {
+    let series = collect_series(rt, alloc, &Open, 1, text.as_bytes())?;
+    tell_series(alloc, &series, digest)
+}
+
+/// The series of a draft on a machine, put into a digest.
+pub fn series_of<RT: Threads + Sync>(
+    rt: &RT,
+    alloc: Global,
+    machine: &Machine,
+    draft: &Draft,
+    digest: &mut Digest,
+) -> Result<(), RunError> {
+    let text = draft.whole(alloc, machine)?;
+    series(rt, alloc, &text, digest)
+}
