@@ -1,5 +1,6 @@
 pub mod Bytes
 pub mod Entries
+pub mod Kinds
 pub mod Limits
 pub mod Meaning
 pub mod Sized

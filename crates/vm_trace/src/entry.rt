@@ -1,9 +1,11 @@
 // A step as a trace keeps it.
-ghost use Rattle.std.specs.Prelude.{◌≡◌, ◌+◌, ◌≤◌, length};
+ghost use Rattle.std.specs.Prelude.{◌≡◌, ℕ, ◌+◌, ◌≤◌, List, length};
 ghost use Rattle.vm_trace.specs.Limits.{HasFewBytes};
-ghost use Rattle.vm_trace.specs.Entries.{action_at, bytes_at, end_of};
+ghost use Rattle.vm_trace.specs.Entries.{action_at, bytes_at, bytes_of, end_of};
+ghost use Rattle.vm_trace.specs.Kinds.{with_bytes};
 
 use crate::bytes::Bytes;
+use crate::kind::StepKind;
 use crate::step::{Action, Queue};
 
 // The bytes of a write and of a raw buffer lie in one list beside all entries, `len` of them from `start` on. So each
@@ -68,5 +70,30 @@ pub(crate) fn action_at(bytes: &[u8], entry: Entry) -> Action
             queue,
             bytes: bytes_at(bytes, start, len),
         },
+    }
+}
+
+// What an entry does, whatever the bytes beside it.
+pub(crate) fn kind_of(entry: Entry) -> StepKind
+    ensures { (bytes : List ℕ) → action_at bytes entry ≡ with_bytes result (bytes_of (action_at bytes entry)) }
+{
+    match entry {
+        Entry::Read { page, offset, len } => StepKind::Read { page, offset, len },
+        Entry::Write { page, offset, .. } => StepKind::Write { page, offset },
+        Entry::Free { page } => StepKind::Free { page },
+        Entry::Idle => StepKind::Idle,
+        Entry::Post { queue, .. } => StepKind::Post { queue },
+    }
+}
+
+// The bytes that an entry brings along, where they lie.
+pub(crate) fn bytes_of(bytes: &[u8], entry: Entry) -> &[u8]
+    requires within { end_of entry ≤ length bytes.now }
+    ensures { result.now ≡ bytes_of (action_at bytes.now entry) }
+{
+    match entry {
+        Entry::Write { start, len, .. } => &bytes[start as usize..start as usize + len as usize],
+        Entry::Post { start, len, .. } => &bytes[start as usize..start as usize + len as usize],
+        _ => &[],
     }
 }

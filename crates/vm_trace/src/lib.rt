@@ -8,6 +8,7 @@ mod bytes;
 mod entering;
 mod entry;
 mod error;
+mod kind;
 mod parse;
 mod plain;
 mod step;
@@ -15,6 +16,7 @@ mod trace;
 
 pub use bytes::{Bytes, MAX_BYTES};
 pub use error::{PushError, TraceError};
+pub use kind::StepKind;
 pub use parse::{parse_step, parse_step_within};
 pub use step::{Action, Queue, Step};
 pub use trace::Trace;

@@ -1,13 +1,15 @@
 // A list of steps.
-ghost use Rattle.std.specs.Prelude.{◌≡◌, ◌<◌, ◌≤◌, ◌↔◌, [], ◌∷◌, ◌++◌, length, Err, IsTrue, IfOk, IfSome, OnOk, OnErr, slice_get};
+ghost use Rattle.std.specs.Prelude.{◌≡◌, ◌<◌, ◌≤◌, ◌↔◌, [], ◌∷◌, ◌++◌, length, Err, IsTrue, IfOk, IfSome, OnOk, OnErr, None, Some, IfNone, slice_get};
 ghost use Rattle.vm_trace.specs.declared.error.PushError.TheVariants.{Fault};
 ghost use Rattle.vm_trace.specs.declared.error.TraceError.{TraceError};
+ghost use Rattle.vm_trace.specs.Kinds.{bytes_in, with_bytes};
 ghost use Rattle.vm_trace.specs.Limits.{IsStep};
 ghost use Rattle.vm_trace.specs.Sized.{step_in, IsAdded};
 
 use crate::entering::{entry_of, entry_of_text};
-use crate::entry::{Entry, action_at};
+use crate::entry::{Entry, action_at, bytes_of, kind_of};
 use crate::error::PushError;
+use crate::kind::StepKind;
 use crate::step::Step;
 use std::alloc::{AllocError, Global};
 use std::marker::Model;
@@ -92,6 +94,26 @@ impl Trace {
     {
         let entry = *self.entries.get(place)?;
         Some(Step::new(action_at(self.bytes.as_slice(), entry)))
+    }
+
+    /// What the step at a place does, counted from 0, or `None` behind the last one. Its bytes are those of [`Trace::bytes`]. This takes
+    /// less time than [`Trace::step`], which copies them.
+    pub fn kind(&self, place: usize) -> Option<StepKind>
+        ensures some { IfSome result (λ kind. slice_get self.now place ≡ Some (with_bytes kind (bytes_in self.now place))) }
+        ensures none { IfNone result (slice_get self.now place ≡ None) }
+    {
+        let entry = self.entries.get(place)?;
+        Some(kind_of(*entry))
+    }
+
+    /// The bytes that the step at a place writes or posts, where they lie: none where it does neither, or where no step is.
+    pub fn bytes(&self, place: usize) -> &[u8]
+        ensures { result.now ≡ bytes_in self.now place }
+    {
+        match self.entries.get(place) {
+            Some(entry) => bytes_of(self.bytes.as_slice(), *entry),
+            None => &[],
+        }
     }
 
     /// How many steps there are.

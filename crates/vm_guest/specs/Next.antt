@@ -1,0 +1,14 @@
+-- The next step of a guest's trace, by what it does and by its bytes.
+use Rattle.std.specs.Prelude.{ℕ, List}
+use Rattle.vm_trace.specs.declared.kind.StepKind.{StepKind}
+use Rattle.vm_trace.specs.declared.step.Action.{Action}
+use Rattle.vm_trace.specs.Kinds.{bytes_in, with_bytes}
+use Rattle.vm_guest.specs.Record.{GuestRecord}
+
+-- the bytes that the next step brings along
+abbrev pub next_bytes : GuestRecord → List ℕ
+next_bytes g = bytes_in g.config.trace g.progress.position
+
+-- the next step, where it is of this kind
+abbrev pub next_of : GuestRecord → StepKind → Action
+next_of g kind = with_bytes kind (next_bytes g)
