@@ -294,6 +294,85 @@ fn texts_with_a_fault_add_nothing(rt: HostRuntime) {
     check_faulty_bytes(&rt, &mut trace);
 }
 
+// Pairs of hexadecimal digits, in which each digit comes, and the bytes that they spell.
+const PAIRS: [(&str, u8); 11] = [
+    ("01", 0x01),
+    ("23", 0x23),
+    ("45", 0x45),
+    ("67", 0x67),
+    ("89", 0x89),
+    ("ab", 0xab),
+    ("cd", 0xcd),
+    ("ef", 0xef),
+    ("AB", 0xab),
+    ("CD", 0xcd),
+    ("EF", 0xef),
+];
+
+// Adds so many pairs to a text, from one of them on.
+fn push_pairs(text: &mut String, first: usize, count: usize) -> Result<(), AllocError> {
+    for place in 0..count {
+        let number = usize::wrapping_add(first, place) % 11;
+        text.push_str(PAIRS[number].0)?;
+    }
+    Ok(())
+}
+
+// The text of a raw buffer of these pairs.
+fn post_of(alloc: Global, first: usize, count: usize) -> Result<String, AllocError> {
+    let mut text = String::from_str(alloc, "p i ")?;
+    push_pairs(&mut text, first, count)?;
+    Ok(text)
+}
+
+// The bytes that so many pairs spell, at most 64, from one of them on.
+fn bytes_of(first: usize, count: usize) -> Bytes {
+    let mut bytes = [0; 64];
+    for place in 0..64 {
+        let number = usize::wrapping_add(first, place) % 11;
+        bytes[place] = PAIRS[number].1;
+    }
+    Bytes::from_slice(&bytes[..count.min(64)])
+}
+
+#[test]
+fn texts_add_raw_buffers_of_all_lengths(rt: HostRuntime) {
+    let mut trace = Trace::new(rt.alloc());
+    for count in 1..65 {
+        let text = post_of(rt.alloc(), count, count).expect(&rt, "memory");
+        let queue = Queue::Inflate;
+        let bytes = bytes_of(count, count);
+        check_added(
+            &rt,
+            &mut trace,
+            text.as_str(),
+            Action::Post { queue, bytes },
+        );
+    }
+}
+
+// The text of a raw buffer with these characters behind so many pairs, and then others up to 64.
+fn post_with(alloc: Global, before: usize, middle: &str) -> Result<String, AllocError> {
+    let mut text = post_of(alloc, before, before)?;
+    text.push_str(middle)?;
+    push_pairs(&mut text, 0, usize::saturating_sub(63, before))?;
+    Ok(text)
+}
+
+#[test]
+fn raw_buffers_with_another_character_add_nothing(rt: HostRuntime) {
+    let mut trace = Trace::new(rt.alloc());
+    let others = ["g0", "0G", "/0", "0:", "@0", "0`", "0", "000", "\u{e9}"];
+    for before in 0..64 {
+        for &middle in &others {
+            let text = post_with(rt.alloc(), before, middle).expect(&rt, "memory");
+            check_refused(&rt, &mut trace, TraceError::Hex, &[text.as_str()]);
+        }
+    }
+    let long = post_of(rt.alloc(), 0, 65).expect(&rt, "memory");
+    check_refused(&rt, &mut trace, TraceError::Length, &[long.as_str()]);
+}
+
 #[test]
 fn faults_read(rt: HostRuntime) {
     let alloc = rt.alloc();
