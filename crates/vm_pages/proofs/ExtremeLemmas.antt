@@ -72,6 +72,12 @@ greatest_from-within pages page end most is =
       | inr past ↦ greatest_from-past pages end most (omega arith) ∙ sym (greatest_from-past pages page most past)
     ]
 
+pub greatest_from-same : (pages : List Bool) (page other most : ℕ) → min (length pages) page ≡ min (length pages) other → greatest_from pages page most ≡ greatest_from pages other most
+greatest_from-same pages page other most same =
+    sym (greatest_from-within pages page (min (length pages) page) most refl)
+    ∙ ap (λ end. greatest_from pages end most) same
+    ∙ greatest_from-within pages other (min (length pages) other) most refl
+
 pub greatest_from-all : (pages : List Bool) (most : ℕ) → greatest_from pages 0 most ≡ take most (reverse (members pages))
 unfolding greatest_from
 greatest_from-all pages most = refl
@@ -115,6 +121,12 @@ least_below-within pages page end most is =
       | inr past ↦ least_below-all pages end most (omega arith) ∙ sym (least_below-all pages page most past)
     ]
 
+pub least_below-same : (pages : List Bool) (page other most : ℕ) → min (length pages) page ≡ min (length pages) other → least_below pages page most ≡ least_below pages other most
+least_below-same pages page other most same =
+    sym (least_below-within pages page (min (length pages) page) most refl)
+    ∙ ap (λ end. least_below pages end most) same
+    ∙ least_below-within pages other (min (length pages) other) most refl
+
 pub least_below-marked : (pages : List Bool) (page most : ℕ) → page < length pages → get_or pages page false ≡ true → length (least_below pages page most) < most → least_below pages (page + 1) most ≡ least_below pages page most ++ page ∷ []
 unfolding least_below
 least_below-marked pages page most there marked room =
@@ -135,5 +147,5 @@ least_below-full pages low high most up full =
     rw (below_split pages low high up) (take_full most (members (take low pages)) (members_between pages low high) full)
 
 -- a block that counts no page has none
-pub none_of_block : (pages : List Bool) (counts : List ℕ) (len block : ℕ) → AreCounted pages counts len → block < length counts → get_or counts block 0 ≤ 0 → count_below pages ((block + 1) * 256) ≡ count_below pages (block * 256)
+pub none_of_block : (pages : List Bool) (counts : List ℕ) (len block : ℕ) → AreCounted pages counts len → block < length counts → get_or counts block 0 ≤ 0 → count_below pages ((block + 1) * 2048) ≡ count_below pages (block * 2048)
 none_of_block pages counts len block counted within none = omega (arith, counted.each block within)

@@ -1,5 +1,7 @@
+mod BitLemmas
 mod BlockLemmas
 mod ExtremeLemmas
+mod WordExtremes
 mod WordLemmas
 pub mod PageSets
 pub mod Listings

@@ -4,13 +4,14 @@ use Rattle.std.specs.Int.{bit_at}
 use Rattle.std.proofs.lemmas.Bool.{cases_eq, cases_lt}
 use Rattle.std.proofs.lemmas.List.{length-set, get_or-set_same, get_or-set_other, get_or-replicate, get_or_past, length-replicate}
 use Rattle.std.proofs.lemmas.List.FromFn.{length-map-range_with_len, get_or-map-range_with_len}
-use Rattle.std.proofs.lemmas.Nat.{ones_cat, mod-pow-add, mod_below, pow_pos, div-add-mod'}
+use Rattle.std.proofs.lemmas.Nat.{ones_cat, mod-pow-add, mod_below, pow_pos}
 use Rattle.std.proofs.lemmas.Nat.Bits.{bit_at-zero, bit_at-lt, bit_at_ones, bit_at_set_same, bit_at_set_other, bit_at_clear_same, bit_at_clear_other}
 use lib.Count.{ones}
 use Rattle.vm_pages.specs.Pages.{no_pages, all_pages, contains, insert, remove, count, count_below}
 use Rattle.std.proofs.Math.Seq.{take-append_seam}
 use Rattle.vm_pages.specs.Blocks.{AreCounted}
 use Rattle.vm_pages.specs.Words.{is_marked, marked, AreKept}
+use Rattle.vm_pages.proofs.BitLemmas.{ones-mono, ones-split}
 use Rattle.vm_pages.proofs.BlockLemmas.{AreCounted-none}
 use Rattle.vm_pages.proofs.PageSets.{same_pages, length-no_pages, length-all_pages, contains-no_pages, contains-all_pages}
 use Rattle.vm_pages.proofs.Listings.{count_below_more, count_below_all}
@@ -183,11 +184,6 @@ count_below-word words size word fits within = ap (λ page. count_below (marked 
     whole : get_or words word 0 % 2 ^ 64 ≡ get_or words word 0
     whole = omega arith
 
--- part of a word's bits
-ones-mod : (word n : ℕ) → count_ones (word % 2 ^ n) ≤ count_ones word
-unfolding ones
-ones-mod word n = omega (arith, ones_cat n (word / 2 ^ n) (word % 2 ^ n) (mod_below word (2 ^ n) (pow_pos n)), ap count_ones (div-add-mod' word (2 ^ n)))
-
 -- where a place has at least as many marked pages before it as there are in a word, it is behind that word
 pub word_passed : (words : List ℕ) (size word left place : ℕ) → get_or words word 0 < 2 ^ 64 → word * 64 < size
     → count_ones (get_or words word 0) ≤ left
@@ -200,8 +196,45 @@ word_passed words size word left place fits within full before there =
       | inl part ↦
           let end : word * 64 + (size - word * 64) ≡ size = omega arith in
           let all : count_below (marked words size) (word * 64 + (size - word * 64)) ≡ count (marked words size) = count_below_all (marked words size) _ (omega (arith, length-marked words size)) in
-          absurd (omega (arith, all, full, before, there, count_below-bits words size word (size - word * 64) (omega arith) (omega arith), ones-mod (get_or words word 0) (size - word * 64)))
+          absurd (omega (arith, all, full, before, there, count_below-bits words size word (size - word * 64) (omega arith) (omega arith), ones-split (get_or words word 0) (size - word * 64)))
     ]
+
+-- the page at a set bit of a word
+pub contains-bit : (words : List ℕ) (size word bit : ℕ) → bit < 64 → word * 64 + bit < size → bit_at (get_or words word 0) bit ≡ 1 → contains (marked words size) (word * 64 + bit) ≡ true
+contains-bit words size word bit few inside set =
+    contains-marked words size (word * 64 + bit) inside
+    ∙ ap (λ w. eqb (bit_at (get_or words w 0) ((word * 64 + bit) % 64)) 1) at_word
+    ∙ ap (λ i. eqb (bit_at (get_or words word 0) i) 1) at_bit
+    ∙ ap (λ b. eqb b 1) set
+  where
+    at_word : (word * 64 + bit) / 64 ≡ word
+    at_word = omega arith
+
+    at_bit : (word * 64 + bit) % 64 ≡ bit
+    at_bit = omega arith
+
+-- the same where `k` bits before it are set, and the set has more pages than those `k` are set, where the set has more pages than that
+pub record IsPage (words : List ℕ) (size word place k : ℕ) : Type 0 where
+  pub in_range : word * 64 + place < size
+  pub there : contains (marked words size) (word * 64 + place) ≡ true
+  pub before : count_below (marked words size) (word * 64 + place) ≡ count_below (marked words size) (word * 64) + k
+
+pub is_page : (words : List ℕ) (size word place k : ℕ) → word * 64 < size → place < 64 → bit_at (get_or words word 0) place ≡ 1
+    → count_ones (get_or words word 0 % 2 ^ place) ≡ k → count_below (marked words size) (word * 64) + k < count (marked words size) → IsPage words size word place k
+is_page words size word place k begins few set is there = record {
+  in_range = inside;
+  there = contains-bit words size word place few inside set;
+  before = count_below-bits words size word place (omega arith) (omega (arith, inside)) ∙ ap (λ ones. count_below (marked words size) (word * 64) + ones) is;
+}
+  where
+    inside : word * 64 + place < size
+    inside =
+        elim (cases_lt (word * 64 + place) size) [
+          | inl below ↦ below
+          | inr past ↦
+              let all : count_below (marked words size) (word * 64 + (size - word * 64)) ≡ count (marked words size) = count_below_all (marked words size) _ (omega (arith, length-marked words size)) in
+              absurd (omega (arith, all, there, is, count_below-bits words size word (size - word * 64) (omega arith) (omega arith), ones-mono (get_or words word 0) (size - word * 64) place (omega arith)))
+        ]
 
 -- a slice that is written back to a list of its length
 pub written_back : (len : ℕ) (new old : List ℕ) → length new ≡ len → take len (new ++ drop (length new) old) ≡ new
@@ -216,7 +249,7 @@ AreKept-after words after size counts len pages marks same is counted = record {
 }
 
 -- the empty set
-pub AreKept-none : (n size blocks : ℕ) → size ≤ n * 64 → size ≤ blocks * 256 → blocks ≤ size → size < 2 ^ 32 → AreKept (replicate n 0) size (replicate blocks 0) 0
+pub AreKept-none : (n size blocks : ℕ) → size ≤ n * 64 → size ≤ blocks * 2048 → blocks ≤ size → size < 2 ^ 32 → AreKept (replicate n 0) size (replicate blocks 0) 0
 AreKept-none n size blocks marks cover few fits = record {
   marks = omega (arith, marks, length-replicate {A = ℕ} n 0);
   counted = rw (marked-none n size) (AreCounted-none size blocks cover few fits);

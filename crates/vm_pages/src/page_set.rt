@@ -1,15 +1,15 @@
-ghost use Rattle.std.specs.Prelude.{◌≡◌, ◌+◌, ◌*◌, ◌^◌, ◌<◌, ◌≤◌, ◌↔◌, All, [], not, length, reverse, take, sum, slice_index, replicate, vec_capacity, IfOk, IsTrue, OnErr};
+ghost use Rattle.std.specs.Prelude.{◌≡◌, ◌+◌, ◌*◌, ◌^◌, ◌<◌, ◌≤◌, ◌↔◌, All, [], not, length, reverse, take, sum, slice_index, replicate, vec_capacity, count_ones, IfOk, IsTrue, OnErr};
 ghost use Rattle.vm_pages.specs.Pages.{no_pages, all_pages, contains, insert, remove, count, count_below, members};
 ghost use Rattle.vm_pages.specs.Blocks.{AreCounted};
 ghost use Rattle.vm_pages.specs.Extremes.{greatest_from, least_below};
 ghost use Rattle.vm_pages.specs.Words.{marked};
 
-use crate::words::{WORD_PAGES, is_marked, mark, unmark, word_of};
+use crate::words::{WORD_PAGES, is_marked, mark, marks_in, nth_bit, unmark, word_of};
 use std::alloc::{AllocError, Global};
 use std::marker::Model;
 
 // The pages of a block, which has a count of its own.
-const BLOCK_PAGES: usize = 256;
+const BLOCK_PAGES: usize = 2048;
 
 // The words of a block.
 const BLOCK_WORDS: usize = BLOCK_PAGES / WORD_PAGES;
@@ -19,9 +19,9 @@ const BLOCK_WORDS: usize = BLOCK_PAGES / WORD_PAGES;
 /// A contract sees it as a list of one flag for each page, and the words for such a list (`contains`, `insert`, `members`..)
 /// stand in `specs/Pages.antt`. No call but [`PageSet::new`] and [`PageSet::all`] takes memory.
 ///
-/// It keeps one bit for each page and one count for each block of 256 pages. So [`PageSet::nth`] passes over the counts and
-/// then over the four words of one block and the bits of one word, [`PageSet::list_greatest`] and [`PageSet::list_least`] pass
-/// over the counts and over the blocks of the pages that they list, and all other calls take constant time.
+/// It keeps one bit for each page, 64 to a word, and one count for each block of 2048 pages. So [`PageSet::nth`] passes over the
+/// counts and then over the 32 words of one block, [`PageSet::list_greatest`] and [`PageSet::list_least`] pass over the counts and
+/// over the words of those blocks whose pages they list, and all other calls take constant time.
 #[derive(Drop)]
 pub struct PageSet {
     // How many pages are in the set, in front, since mostly no more is looked at.
@@ -158,14 +158,14 @@ impl PageSet {
         let pages = self.size as usize;
         let (block, left) = block_of(&self.counts, k);
         let (word, left) = word_of(&self.words, pages, block * BLOCK_WORDS, left);
-        nth_from(&self.words, pages, word * WORD_PAGES, left) as u32
+        page_in(&self.words, pages, word, left) as u32
     }
 
     /// Makes `pages` the list of the greatest pages of the set, at most `most` of them, greatest first, in the room that
     /// `pages` has. The pages of the set stay in it.
     ///
-    /// It passes once over the counts of the blocks, from the last one down, and over the marks of those blocks that have pages
-    /// of the set, and stops at `most` pages.
+    /// It passes once over the counts of the blocks, from the last one down, and over the words of those blocks that have
+    /// pages of the set, and stops at `most` pages.
     pub fn list_greatest(&self, most: u32, pages: &mut Vec<u32>)
         requires room { most ≤ vec_capacity pages.old }
         ensures listed { pages.new.items ≡ take most (reverse (members self.now)) }
@@ -185,7 +185,7 @@ impl PageSet {
     /// Makes `pages` the list of the least pages of the set, at most `most` of them, least first, in the room that `pages` has.
     /// The pages of the set stay in it.
     ///
-    /// It passes once over the counts of the blocks, from the first one up, and over the marks of those blocks that have pages
+    /// It passes once over the counts of the blocks, from the first one up, and over the words of those blocks that have pages
     /// of the set, and stops at `most` pages.
     pub fn list_least(&self, most: u32, pages: &mut Vec<u32>)
         requires room { most ≤ vec_capacity pages.old }
@@ -221,24 +221,17 @@ fn block_of(counts: &[u32], k: u32) -> (usize, u32)
     unreachable!()
 }
 
-// The marked page from `start` on before which `k` marked ones stand there.
-fn nth_from(words: &[u64], pages: usize, start: usize, k: u32) -> usize
+// The page that a word marks after `k` others.
+fn page_in(words: &[u64], pages: usize, word: usize, k: u32) -> usize
     requires marks { pages ≤ length words.now * 64 }
-    requires there { count_below (marked words.now pages) start + k < count (marked words.now pages) }
+    requires begins { word * 64 < pages }
+    requires there { count_below (marked words.now pages) (word * 64) + k < count (marked words.now pages) }
+    requires within { k < count_ones (slice_index words.now word) }
     ensures in_range { result < pages }
     ensures there { IsTrue (contains (marked words.now pages) result) }
-    ensures listed { result ≡ slice_index (members (marked words.now pages)) (count_below (marked words.now pages) start + k) }
+    ensures listed { result ≡ slice_index (members (marked words.now pages)) (count_below (marked words.now pages) (word * 64) + k) }
 {
-    let mut left = k;
-    for page in start..pages {
-        if is_marked(words, page) {
-            if left == 0 {
-                return page;
-            }
-            left -= 1;
-        }
-    }
-    unreachable!()
+    word * WORD_PAGES + nth_bit(words[word], k) as usize
 }
 
 // Lists the greatest pages, block by block from the last one down.
@@ -264,21 +257,41 @@ fn list_greatest_of(counts: &[u32], words: &[u64], pages: usize, most: usize, li
 fn list_block_down(words: &[u64], pages: usize, block: usize, most: usize, list: &mut Vec<u32>)
     requires marks { pages ≤ length words.now * 64 }
     requires fits { pages < 2 ^ 32 }
-    requires within { block * 256 < pages }
-    requires before { list.old.items ≡ greatest_from (marked words.now pages) ((block + 1) * 256) most }
+    requires within { block * 2048 < pages }
+    requires before { list.old.items ≡ greatest_from (marked words.now pages) ((block + 1) * 2048) most }
     requires room { most ≤ vec_capacity list.old }
-    ensures after { list.new.items ≡ greatest_from (marked words.now pages) (block * 256) most }
+    ensures after { list.new.items ≡ greatest_from (marked words.now pages) (block * 2048) most }
     ensures room { vec_capacity list.new ≡ vec_capacity list.old }
 {
-    let start = block * BLOCK_PAGES;
-    let end = pages.min(start + BLOCK_PAGES);
-    for page in (start..end).rev() {
+    let start = block * BLOCK_WORDS;
+    let end = pages.div_ceil(WORD_PAGES).min(start + BLOCK_WORDS);
+    for word in (start..end).rev() {
         if list.len() >= most {
             return;
         }
-        if is_marked(words, page) {
-            list.push_reserved(page as u32);
+        list_word_down(words, pages, word, most, list);
+    }
+}
+
+// Adds the pages of a word to a list of the greatest ones, until it has `most`.
+fn list_word_down(words: &[u64], pages: usize, word: usize, most: usize, list: &mut Vec<u32>)
+    requires marks { pages ≤ length words.now * 64 }
+    requires fits { pages < 2 ^ 32 }
+    requires begins { word * 64 < pages }
+    requires before { list.old.items ≡ greatest_from (marked words.now pages) ((word + 1) * 64) most }
+    requires room { most ≤ vec_capacity list.old }
+    ensures after { list.new.items ≡ greatest_from (marked words.now pages) (word * 64) most }
+    ensures room { vec_capacity list.new ≡ vec_capacity list.old }
+{
+    let start = word * WORD_PAGES;
+    let mut lower = marks_in(words, pages, word);
+    while lower > 0 {
+        if list.len() >= most {
+            return;
         }
+        let bit = 63 - lower.leading_zeros();
+        list.push_reserved(start as u32 + bit);
+        lower -= 1 << bit;
     }
 }
 
@@ -305,20 +318,40 @@ fn list_least_of(counts: &[u32], words: &[u64], pages: usize, most: usize, list:
 fn list_block_up(words: &[u64], pages: usize, block: usize, most: usize, list: &mut Vec<u32>)
     requires marks { pages ≤ length words.now * 64 }
     requires fits { pages < 2 ^ 32 }
-    requires within { block * 256 < pages }
-    requires before { list.old.items ≡ least_below (marked words.now pages) (block * 256) most }
+    requires within { block * 2048 < pages }
+    requires before { list.old.items ≡ least_below (marked words.now pages) (block * 2048) most }
     requires room { most ≤ vec_capacity list.old }
-    ensures after { list.new.items ≡ least_below (marked words.now pages) ((block + 1) * 256) most }
+    ensures after { list.new.items ≡ least_below (marked words.now pages) ((block + 1) * 2048) most }
     ensures room { vec_capacity list.new ≡ vec_capacity list.old }
 {
-    let start = block * BLOCK_PAGES;
-    let end = pages.min(start + BLOCK_PAGES);
-    for page in start..end {
+    let start = block * BLOCK_WORDS;
+    let end = pages.div_ceil(WORD_PAGES).min(start + BLOCK_WORDS);
+    for word in start..end {
         if list.len() >= most {
             return;
         }
-        if is_marked(words, page) {
-            list.push_reserved(page as u32);
+        list_word_up(words, pages, word, most, list);
+    }
+}
+
+// Adds the pages of a word to a list of the least ones, until it has `most`.
+fn list_word_up(words: &[u64], pages: usize, word: usize, most: usize, list: &mut Vec<u32>)
+    requires marks { pages ≤ length words.now * 64 }
+    requires fits { pages < 2 ^ 32 }
+    requires begins { word * 64 < pages }
+    requires before { list.old.items ≡ least_below (marked words.now pages) (word * 64) most }
+    requires room { most ≤ vec_capacity list.old }
+    ensures after { list.new.items ≡ least_below (marked words.now pages) ((word + 1) * 64) most }
+    ensures room { vec_capacity list.new ≡ vec_capacity list.old }
+{
+    let start = word * WORD_PAGES;
+    let mut upper = marks_in(words, pages, word);
+    while upper > 0 {
+        if list.len() >= most {
+            return;
         }
+        let bit = upper.trailing_zeros();
+        list.push_reserved(start as u32 + bit);
+        upper -= 1 << bit;
     }
 }

@@ -1,5 +1,6 @@
 // Pages that are marked by a bit each, 64 to a word.
-ghost use Rattle.std.specs.Prelude.{◌≡◌, ℕ, ◌+◌, ◌*◌, ◌/◌, ◌<◌, ◌≤◌, length};
+ghost use Rattle.std.specs.Prelude.{◌≡◌, ℕ, ◌+◌, ◌-◌, ◌*◌, ◌/◌, ◌%◌, ◌^◌, ◌<◌, ◌≤◌, length, min, slice_index, count_ones};
+ghost use Rattle.std.specs.Int.{bit_at};
 ghost use Rattle.vm_pages.specs.Pages.{insert, remove, count, count_below};
 ghost use Rattle.vm_pages.specs.Words.{is_marked, marked};
 
@@ -36,8 +37,10 @@ pub(crate) fn unmark(words: &mut [u64], page: usize)
 pub(crate) fn word_of(words: &[u64], pages: usize, first: usize, k: u32) -> (usize, u32)
     requires marks { pages ≤ length words.now * 64 }
     requires there { count_below (marked words.now pages) (first * 64) + k < count (marked words.now pages) }
+    ensures begins { result.0 * 64 < pages }
     ensures before { count_below (marked words.now pages) (result.0 * 64) + result.1
         ≡ count_below (marked words.now pages) (first * 64) + k }
+    ensures within { result.1 < count_ones (slice_index words.now result.0) }
 {
     let mut left = k;
     for word in first..pages.div_ceil(WORD_PAGES) {
@@ -48,4 +51,44 @@ pub(crate) fn word_of(words: &[u64], pages: usize, first: usize, k: u32) -> (usi
         left -= count;
     }
     unreachable!()
+}
+
+// The place of the set bit of a word before which `k` set ones stand. Six times it halves the bits among which that one is,
+// rather than pass over them.
+pub(crate) fn nth_bit(word: u64, k: u32) -> u32
+    requires { k < count_ones word }
+    ensures in_range { result < 64 }
+    ensures set { bit_at word result ≡ 1 }
+    ensures before { count_ones (word % 2 ^ result) ≡ k }
+{
+    let mut place = 0;
+    let mut rest = word;
+    let mut left = k;
+    for level in (0..6_u32).rev() {
+        let half = 1 << level;
+        let low = rest & ((1 << half) - 1);
+        let lower = low.count_ones();
+        if left < lower {
+            rest = low;
+        } else {
+            left -= lower;
+            rest >>= half;
+            place += half;
+        }
+    }
+    place
+}
+
+// The marks in a word, without those bits that are past the last page.
+pub(crate) fn marks_in(words: &[u64], pages: usize, word: usize) -> u64
+    requires marks { pages ≤ length words.now * 64 }
+    requires begins { word * 64 < pages }
+    ensures { result ≡ slice_index words.now word % 2 ^ min 64 (pages - word * 64) }
+{
+    let left = pages - word * WORD_PAGES;
+    if left < WORD_PAGES {
+        words[word] & ((1 << left) - 1)
+    } else {
+        words[word]
+    }
 }

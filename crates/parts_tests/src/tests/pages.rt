@@ -74,3 +74,64 @@ fn all_pages_are_there(rt: HostRuntime) {
     check_greatest(&rt, &set, 3, &mut pages, &[599, 597, 596]);
     check_least(&rt, &set, 3, &mut pages, &[0, 1, 2]);
 }
+
+#[test]
+fn pages_are_found_over_words_and_blocks(rt: HostRuntime) {
+    let mut set = PageSet::new(rt.alloc(), 2200).expect(&rt, "memory");
+    check_eq(&rt, set.insert(2048), true);
+    check_eq(&rt, set.insert(2199), true);
+    check_eq(&rt, set.insert(63), true);
+    check_eq(&rt, set.insert(2047), true);
+    check_eq(&rt, set.insert(64), true);
+    check_pages(&rt, &set, &[63, 64, 2047, 2048, 2199]);
+    let mut pages = Vec::with_capacity(rt.alloc(), 8).expect(&rt, "memory");
+    check_greatest(&rt, &set, 4, &mut pages, &[2199, 2048, 2047, 64]);
+    check_least(&rt, &set, 4, &mut pages, &[63, 64, 2047, 2048]);
+    check_greatest(&rt, &set, 8, &mut pages, &[2199, 2048, 2047, 64, 63]);
+    check_least(&rt, &set, 8, &mut pages, &[63, 64, 2047, 2048, 2199]);
+    check_eq(&rt, set.remove(2047), true);
+    check_pages(&rt, &set, &[63, 64, 2048, 2199]);
+    check_eq(&rt, set.remove(64), true);
+    check_eq(&rt, set.remove(2199), true);
+    check_greatest(&rt, &set, 8, &mut pages, &[2048, 63]);
+    check_least(&rt, &set, 1, &mut pages, &[63]);
+}
+
+#[test]
+fn pages_are_found_within_words(rt: HostRuntime) {
+    let mut set = PageSet::all(rt.alloc(), 130).expect(&rt, "memory");
+    for place in 0..130 {
+        check_eq(&rt, set.nth(place), place);
+    }
+    let mut pages = Vec::with_capacity(rt.alloc(), 4).expect(&rt, "memory");
+    check_greatest(&rt, &set, 4, &mut pages, &[129, 128, 127, 126]);
+    check_eq(&rt, set.remove(0), true);
+    check_eq(&rt, set.remove(64), true);
+    check_eq(&rt, set.remove(127), true);
+    check_eq(&rt, set.nth(0), 1);
+    check_eq(&rt, set.nth(62), 63);
+    check_eq(&rt, set.nth(63), 65);
+    check_eq(&rt, set.nth(124), 126);
+    check_eq(&rt, set.nth(125), 128);
+    check_greatest(&rt, &set, 4, &mut pages, &[129, 128, 126, 125]);
+    check_least(&rt, &set, 2, &mut pages, &[1, 2]);
+}
+
+#[test]
+fn sets_end_at_words_and_blocks(rt: HostRuntime) {
+    let mut pages = Vec::with_capacity(rt.alloc(), 4).expect(&rt, "memory");
+    let word = PageSet::all(rt.alloc(), 64).expect(&rt, "memory");
+    check_greatest(&rt, &word, 2, &mut pages, &[63, 62]);
+    check_eq(&rt, word.nth(63), 63);
+    let more = PageSet::all(rt.alloc(), 65).expect(&rt, "memory");
+    check_greatest(&rt, &more, 3, &mut pages, &[64, 63, 62]);
+    check_eq(&rt, more.nth(64), 64);
+    let block = PageSet::all(rt.alloc(), 2048).expect(&rt, "memory");
+    check_greatest(&rt, &block, 2, &mut pages, &[2047, 2046]);
+    check_eq(&rt, block.nth(2047), 2047);
+    let longer = PageSet::all(rt.alloc(), 2049).expect(&rt, "memory");
+    check_eq(&rt, longer.len(), 2049);
+    check_greatest(&rt, &longer, 2, &mut pages, &[2048, 2047]);
+    check_eq(&rt, longer.nth(2047), 2047);
+    check_eq(&rt, longer.nth(2048), 2048);
+}

@@ -1,11 +1,11 @@
-use Rattle.std.proofs.Common.{◌≡◌, ◌≤◌, vec_capacity}
+use Rattle.std.proofs.Common.{◌≡◌, ◌*◌, ◌≤◌, vec_capacity}
 use Rattle.vm_pages.specs.Words.{marked}
 use Rattle.vm_pages.specs.Extremes.{greatest_from}
 use Rattle.vm_pages.proofs.page_set.list_block_down.Given as goal
 
-abbrev pub invariant-loop-page : goal.invariant-loop-page
-invariant-loop-page l = record {
-  above : l.start ≤ l.page;
-  listed : l.list.items ≡ greatest_from (marked l.words l.pages) l.page l.most;
+abbrev pub invariant-loop-word : goal.invariant-loop-word
+invariant-loop-word l = record {
+  above : l.start ≤ l.word;
+  listed : l.list.items ≡ greatest_from (marked l.words l.pages) (l.word * 64) l.most;
   room : vec_capacity l.list ≡ vec_capacity l.initial.list;
 }

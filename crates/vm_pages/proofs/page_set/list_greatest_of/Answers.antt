@@ -29,11 +29,11 @@ loop-block-preserved c =
     let above : c.loop-block.block - 1 + 1 ≡ c.loop-block.block = omega arith in
     let none = rw above at (none_of_block _ _ _ (c.loop-block.block - 1) c.requires.counted (omega arith) c.if-counts-block-gt0.false) in
     record {
-      listed = invariant.listed ∙ sym (greatest_from-none (marked c.args.words.now c.args.pages) ((c.loop-block.block - 1) * 256) (c.loop-block.block * 256) c.args.most (omega arith) none);
+      listed = invariant.listed ∙ sym (greatest_from-none (marked c.args.words.now c.args.pages) ((c.loop-block.block - 1) * 2048) (c.loop-block.block * 2048) c.args.most (omega arith) none);
       room = invariant.room;
     }
 
 pub returns-clause-listed : goal.returns-clause-listed
 returns-clause-listed c =
-    let first : c.loop-block.block * 256 ≡ 0 = omega arith in
+    let first : c.loop-block.block * 2048 ≡ 0 = omega arith in
     c.loop-block.invariant.listed ∙ ap (λ n. greatest_from (marked c.args.words.now c.args.pages) n c.args.most) first ∙ greatest_from-all _ _

@@ -13,8 +13,8 @@ pub returns-then-len-most-clause-listed : goal.returns-then-len-most-clause-list
 returns-then-len-most-clause-listed c =
     let invariant = c.loop-block.invariant in
     invariant.listed
-    ∙ sym (least_below-full _ _ (c.loop-block.block * 256 + c.args.pages) _ (omega arith) (rw (← invariant.listed) (omega arith)))
-    ∙ least_below-all (marked c.args.words.now c.args.pages) (c.loop-block.block * 256 + c.args.pages) _ (omega (arith, length-marked c.args.words.now c.args.pages))
+    ∙ sym (least_below-full _ _ (c.loop-block.block * 2048 + c.args.pages) _ (omega arith) (rw (← invariant.listed) (omega arith)))
+    ∙ least_below-all (marked c.args.words.now c.args.pages) (c.loop-block.block * 2048 + c.args.pages) _ (omega (arith, length-marked c.args.words.now c.args.pages))
 
 pub list_block_up-requires-clause-fits : goal.list_block_up-requires-clause-fits
 list_block_up-requires-clause-fits c = omega (arith, c.requires.counted.fits, length-marked c.args.words.now c.args.pages)

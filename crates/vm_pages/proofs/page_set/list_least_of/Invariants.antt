@@ -5,6 +5,6 @@ use Rattle.vm_pages.proofs.page_set.list_least_of.Given as goal
 
 abbrev pub invariant-loop-block : goal.invariant-loop-block
 invariant-loop-block l = record {
-  listed : l.list.items ≡ least_below (marked l.words l.pages) (l.block * 256) l.most;
+  listed : l.list.items ≡ least_below (marked l.words l.pages) (l.block * 2048) l.most;
   room : vec_capacity l.list ≡ vec_capacity l.initial.list;
 }

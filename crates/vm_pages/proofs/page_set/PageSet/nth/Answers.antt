@@ -14,8 +14,8 @@ returns-clause-listed c =
     let before = rw c.deref.ensures.value at c.block_of-block.ensures.before in
     let block = rw c.deref.ensures.value at c.block_of-block.ensures.in_range in
     let word = rw c.deref-2.ensures.value at c.word_of-word.ensures.before in
-    let listed = rw c.deref-3.ensures.value at c.nth_from.ensures.listed in
-    let same : c.block_of-block.result.0 * 4 * 64 ≡ c.block_of-block.result.0 * 256 = omega arith in
+    let listed = rw c.deref-3.ensures.value at c.page_in.ensures.listed in
+    let same : c.block_of-block.result.0 * 32 * 64 ≡ c.block_of-block.result.0 * 2048 = omega arith in
     let place : count_below (marked c.self.inside.words.items c.self.inside.size) (c.word_of-word.result.0 * 64) + c.word_of-word.result.1 ≡ c.args.k =
     omega (arith, before, rw same at word, sum-counts _ _ _ c.block_of-block.result.0 c.self.invariant.counted (omega (arith, block))) in
     rw (← c.self.view_is, ← place) listed
