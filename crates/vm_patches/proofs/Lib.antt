@@ -2,3 +2,4 @@ pub mod Writes
 mod Zeros
 mod Contents
 mod LastBytes
+mod Masks

@@ -1,19 +1,31 @@
--- What a page contains whose few bytes are kept beside its frame.
+-- What a page contains that is of few bytes, of some lines or of a whole frame.
 use Rattle.std.specs.Prelude.{◌≡◌, ℕ, ◌++◌, List, [], Option, None, Some}
 use Rattle.vm_patches.specs.declared.patch.ByteWrite.{ByteWrite}
+use Rattle.vm_patches.specs.declared.patched_frame.Contents.{Contents}
+use Rattle.vm_patches.specs.declared.patched_frame.Contents.TheVariants.{Few, Lines, Whole}
+use Rattle.vm_patches.specs.Lines.{masked}
 use Rattle.vm_patches.specs.Patches.{patched, writes_of, zero_bytes}
 
--- zeros with what was written to them, or else the frame's bytes
-abbrev pub contents_of : Option (List ByteWrite) → List ℕ → List ℕ
-contents_of None bytes = bytes
-contents_of (Some writes) bytes = patched zero_bytes writes
+-- zeros with what was written to them, or with the frame's bytes in the lines that were written, or else the frame's bytes
+abbrev pub contents_of : Contents → List ℕ → List ℕ
+contents_of (Few writes) bytes = patched zero_bytes writes
+contents_of (Lines lines) bytes = masked lines bytes
+contents_of Whole bytes = bytes
 
 -- there is a patch, and it has these bytes too
-abbrev pub IsWritten : Option (List ByteWrite) → Option (List ByteWrite) → ℕ → List ℕ → Type 0
-IsWritten None new offset bytes = ⊥
-IsWritten (Some writes) new offset bytes = new ≡ Some (writes ++ writes_of offset bytes)
+abbrev pub IsWritten : Contents → Contents → ℕ → List ℕ → Type 0
+IsWritten (Few writes) new offset bytes = new ≡ Few (writes ++ writes_of offset bytes)
+IsWritten (Lines lines) new offset bytes = ⊥
+IsWritten Whole new offset bytes = ⊥
+
+-- the patch, where there is one
+abbrev pub patch_of : Contents → Option (List ByteWrite)
+patch_of (Few writes) = Some writes
+patch_of (Lines lines) = None
+patch_of Whole = None
 
 -- a patch that changes nothing, where there is one
-abbrev pub blank_where_some : Option (List ByteWrite) → Option (List ByteWrite)
-blank_where_some None = None
-blank_where_some (Some writes) = Some []
+abbrev pub blank_where_few : Contents → Contents
+blank_where_few (Few writes) = Few []
+blank_where_few (Lines lines) = Lines lines
+blank_where_few Whole = Whole

@@ -1,4 +1,5 @@
 pub mod Patches
+pub mod Lines
 pub mod Contents
 pub mod LastByte
 pub use Rattle.vm_frames.specs.Frame

@@ -2,10 +2,11 @@
 //!
 //! A [`Patch`] is what was written to a page, byte by byte: so Difference Engine (Gupta and others, OSDI 2008, section 3.2) keeps a
 //! page that differs in little from another. A [`PatchedFrame`] is a frame of zeros and a patch, until more is written than the
-//! patch has room for. Then its bytes stand in the frame.
+//! patch has room for. Then its bytes stand in those lines of the frame that were written, and all others are zeros.
 #![tactic(auto)]
 
 mod law;
+mod lines;
 pub mod patch;
 pub mod patched_frame;
 

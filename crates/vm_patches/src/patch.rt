@@ -65,6 +65,14 @@ impl Patch {
         push_writes(&mut self.writes, offset, bytes);
     }
 
+    // The writes, of which the first comes first.
+    pub(crate) fn writes(&self) -> &[ByteWrite]
+        ensures is { result.now ≡ self.now }
+        ensures within { AreWithin result.now }
+    {
+        self.writes.as_slice()
+    }
+
     /// Copies bytes of a page, from `offset` on, as they are after the writes.
     pub fn read(&self, page: &[u8; PAGE_BYTES], offset: usize, bytes: &mut [u8])
         requires { offset + length bytes.old ≤ PAGE_BYTES }

@@ -1,14 +1,28 @@
-ghost use Rattle.std.specs.Prelude.{◌≡◌, ◌+◌, ◌≤◌, None, IfSome, IfNone, length, slice_range};
+ghost use Rattle.std.specs.Prelude.{◌≡◌, ◌+◌, ◌≤◌, IfSome, IfNone, length, slice_range};
 ghost use Rattle.std.specs.Bool.{OnTrue, OnFalse};
 ghost use Rattle.vm_patches.specs.Patches.{overwritten, patched, zero_bytes};
-ghost use Rattle.vm_patches.specs.Contents.{blank_where_some, contents_of, IsWritten};
+ghost use Rattle.vm_patches.specs.Contents.{blank_where_few, contents_of, patch_of, IsWritten};
+ghost use Rattle.vm_patches.specs.declared.patched_frame.Contents.TheVariants.{Whole};
 
+use crate::lines::{LineSet, blank_others, read_lines, write_each, write_lines};
 use crate::patch::Patch;
 use std::marker::Model;
-use std::mem::swap;
+use std::mem::{replace, swap};
 use vm_frames::{Frame, PAGE_BYTES};
 
 const ZEROS: [u8; PAGE_BYTES] = [0; PAGE_BYTES];
+
+// Where the bytes of a page are.
+#[derive(Drop)]
+enum Contents {
+    // In a patch of a page of zeros. Nothing is said by the frame's bytes.
+    Few(Patch),
+    // In those lines of the frame, and all others are zeros, whatever the frame has there: so a frame need not be cleared when a page
+    // outgrows its patch.
+    Lines(LineSet),
+    // In the frame.
+    Whole,
+}
 
 /// A frame that is under a page. While few bytes were written to the page since it was of zeros, they are kept beside the frame,
 /// whose memory is not touched for them.
@@ -17,8 +31,7 @@ const ZEROS: [u8; PAGE_BYTES] = [0; PAGE_BYTES];
 /// memory.
 pub struct PatchedFrame {
     frame: Frame,
-    // What was written to a page of zeros. Where it is `None`, the page's bytes are the frame's; else nothing is said by those.
-    patch: Option<Patch>,
+    contents: Contents,
 }
 
 impl Model for PatchedFrame {
@@ -27,7 +40,7 @@ impl Model for PatchedFrame {
 
     ghost Value = { FrameView };
 
-    ghost view = { λ f. record { number = f.frame.number; bytes = contents_of f.patch f.frame.bytes } };
+    ghost view = { λ f. record { number = f.frame.number; bytes = contents_of f.contents f.frame.bytes } };
 }
 
 impl PatchedFrame {
@@ -36,10 +49,13 @@ impl PatchedFrame {
         ensures { result ≡ frame }
     {
         if frame.is_blank() {
-            let patch = Some(Patch::new());
-            PatchedFrame { frame, patch }
+            let contents = Contents::Few(Patch::new());
+            PatchedFrame { frame, contents }
         } else {
-            PatchedFrame { frame, patch: None }
+            PatchedFrame {
+                frame,
+                contents: Contents::Whole,
+            }
         }
     }
 
@@ -48,7 +64,7 @@ impl PatchedFrame {
         requires { offset + length bytes.old ≤ PAGE_BYTES }
         ensures { bytes.new ≡ slice_range self.now.bytes offset (offset + length bytes.old) }
     {
-        read_contents(&self.patch, &self.frame, offset, bytes);
+        read_contents(&self.contents, &self.frame, offset, bytes);
     }
 
     /// Writes bytes to the page, from `offset` on.
@@ -56,9 +72,8 @@ impl PatchedFrame {
         requires { offset + length bytes.now ≤ PAGE_BYTES }
         ensures { self.new ≡ record self.old { bytes = overwritten self.old.bytes offset bytes.now } }
     {
-        if !write_few(&mut self.patch, offset, bytes) {
-            settle(&mut self.patch, &mut self.frame);
-            self.frame.bytes_mut()[offset..offset + bytes.len()].copy_from_slice(bytes);
+        if !write_few(&mut self.contents, offset, bytes) {
+            write_frame(&mut self.contents, self.frame.bytes_mut(), offset, bytes);
         }
     }
 
@@ -68,21 +83,21 @@ impl PatchedFrame {
         ensures taken { IfSome result (λ patch. self.new ≡ record self.old { bytes = zero_bytes }) }
         ensures none { IfNone result (self.new ≡ self.old) }
     {
-        take_few(&mut self.patch)
+        take_few(&mut self.contents)
     }
 
     /// Makes it a page of zeros that has the writes of the patch. The frame's memory is not touched.
     pub fn set_patch(&mut self, patch: Patch)
         ensures { self.new ≡ record self.old { bytes = patched zero_bytes patch } }
     {
-        self.patch = Some(patch);
+        self.contents = Contents::Few(patch);
     }
 
     /// Makes them the page's bytes.
     pub fn set_bytes(&mut self, bytes: &[u8; PAGE_BYTES])
         ensures { self.new ≡ record self.old { bytes = bytes.now } }
     {
-        self.patch = None;
+        self.contents = Contents::Whole;
         *self.frame.bytes_mut() = *bytes;
     }
 
@@ -91,7 +106,7 @@ impl PatchedFrame {
         ensures page { self.new ≡ record self.old { bytes = buffer.old } }
         ensures buffer { buffer.new ≡ self.old.bytes }
     {
-        settle(&mut self.patch, &mut self.frame);
+        settle(&mut self.contents, &mut self.frame);
         swap(self.frame.bytes_mut(), buffer);
     }
 
@@ -101,9 +116,9 @@ impl PatchedFrame {
     {
         let PatchedFrame {
             mut frame,
-            mut patch,
+            mut contents,
         } = self;
-        settle(&mut patch, &mut frame);
+        settle(&mut contents, &mut frame);
         frame
     }
 
@@ -111,29 +126,30 @@ impl PatchedFrame {
     pub fn release(self) -> Frame
         ensures { result.number ≡ self.number }
     {
-        let PatchedFrame { frame, patch: _ } = self;
+        let PatchedFrame { frame, contents: _ } = self;
         frame
     }
 }
 
 // Copies bytes of the page, from `offset` on.
-fn read_contents(patch: &Option<Patch>, frame: &Frame, offset: usize, bytes: &mut [u8])
+fn read_contents(contents: &Contents, frame: &Frame, offset: usize, bytes: &mut [u8])
     requires { offset + length bytes.old ≤ PAGE_BYTES }
-    ensures { bytes.new ≡ slice_range (contents_of patch.now frame.now.bytes) offset (offset + length bytes.old) }
+    ensures { bytes.new ≡ slice_range (contents_of contents.now frame.now.bytes) offset (offset + length bytes.old) }
 {
-    match patch {
-        Some(few) => few.read(&ZEROS, offset, bytes),
-        None => bytes.copy_from_slice(&frame.bytes()[offset..offset + bytes.len()]),
+    match contents {
+        Contents::Few(few) => few.read(&ZEROS, offset, bytes),
+        Contents::Lines(lines) => read_lines(lines, frame.bytes(), offset, bytes),
+        Contents::Whole => bytes.copy_from_slice(&frame.bytes()[offset..offset + bytes.len()]),
     }
 }
 
 // Writes bytes to the patch, if there is one that has room for them, and answers whether it did.
-fn write_few(patch: &mut Option<Patch>, offset: usize, bytes: &[u8]) -> bool
+fn write_few(contents: &mut Contents, offset: usize, bytes: &[u8]) -> bool
     requires { offset + length bytes.now ≤ PAGE_BYTES }
-    ensures written { OnTrue result (IsWritten patch.old patch.new offset bytes.now) }
-    ensures unchanged { OnFalse result (patch.new ≡ patch.old) }
+    ensures written { OnTrue result (IsWritten contents.old contents.new offset bytes.now) }
+    ensures unchanged { OnFalse result (contents.new ≡ contents.old) }
 {
-    if let Some(few) = patch {
+    if let Contents::Few(few) = contents {
         if few.has_room(bytes.len()) {
             few.write(offset, bytes);
             return true;
@@ -142,25 +158,46 @@ fn write_few(patch: &mut Option<Patch>, offset: usize, bytes: &[u8]) -> bool
     false
 }
 
-// Takes the patch, if there is one, and leaves one that changes nothing.
-fn take_few(patch: &mut Option<Patch>) -> Option<Patch>
-    ensures taken { result ≡ patch.old }
-    ensures left { patch.new ≡ blank_where_some patch.old }
+// Writes bytes to the frame. Those of a patch go there too.
+fn write_frame(contents: &mut Contents, page: &mut [u8; PAGE_BYTES], offset: usize, bytes: &[u8])
+    requires { offset + length bytes.now ≤ PAGE_BYTES }
+    ensures { contents_of contents.new page.new ≡ overwritten (contents_of contents.old page.old) offset bytes.now }
 {
-    if patch.is_some() {
-        patch.replace(Patch::new())
-    } else {
-        None
+    match contents {
+        Contents::Few(few) => {
+            let mut lines = LineSet::new();
+            write_each(&mut lines, page, few.writes());
+            write_lines(&mut lines, page, offset, bytes);
+            *contents = Contents::Lines(lines);
+        }
+        Contents::Lines(lines) => write_lines(lines, page, offset, bytes),
+        Contents::Whole => page[offset..offset + bytes.len()].copy_from_slice(bytes),
+    }
+}
+
+// Takes the patch, if there is one, and leaves one that changes nothing.
+fn take_few(contents: &mut Contents) -> Option<Patch>
+    ensures taken { result ≡ patch_of contents.old }
+    ensures left { contents.new ≡ blank_where_few contents.old }
+{
+    match contents {
+        Contents::Few(few) => Some(replace(few, Patch::new())),
+        Contents::Lines(_) | Contents::Whole => None,
     }
 }
 
 // Brings the page's bytes into the frame.
-fn settle(patch: &mut Option<Patch>, frame: &mut Frame)
-    ensures patch { patch.new ≡ None }
-    ensures frame { frame.new ≡ record frame.old { bytes = contents_of patch.old frame.old.bytes } }
+fn settle(contents: &mut Contents, frame: &mut Frame)
+    ensures contents { contents.new ≡ Whole }
+    ensures frame { frame.new ≡ record frame.old { bytes = contents_of contents.old frame.old.bytes } }
 {
-    if let Some(few) = patch.take() {
-        frame.zero();
-        few.apply(frame.bytes_mut());
+    match contents {
+        Contents::Few(few) => {
+            frame.zero();
+            few.apply(frame.bytes_mut());
+        }
+        Contents::Lines(lines) => blank_others(lines, frame.bytes_mut()),
+        Contents::Whole => {}
     }
+    *contents = Contents::Whole;
 }

@@ -1,5 +1,5 @@
 // Pages of few written bytes.
-ghost use Rattle.std.specs.Prelude.{◌+◌, ◌≤◌, length};
+ghost use Rattle.std.specs.Prelude.{◌≡◌, ◌+◌, ◌≤◌, length};
 
 use super::check_eq;
 use super::frames::close_machine;
@@ -64,5 +64,69 @@ fn a_patch_comes_with_its_frame(rt: HostRuntime) {
     let frame = page.into_frame();
     check_eq(&rt, [frame.bytes()[1], frame.bytes()[2]], [0, 5]);
     machine.give(frame);
+    close_machine(&rt, machine, 1);
+}
+
+// Each byte of a page, in the order of offsets.
+fn check_page(rt: &impl Abort, page: &PatchedFrame, wanted: &[u8; PAGE_BYTES]) {
+    let mut bytes = [9; PAGE_BYTES];
+    page.read(0, &mut bytes);
+    check_eq(rt, bytes == *wanted, true);
+}
+
+// Writes bytes to a page, and the same to an array beside it.
+fn write_both(page: &mut PatchedFrame, wanted: &mut [u8; PAGE_BYTES], offset: usize, bytes: &[u8])
+    requires { offset + length bytes.now ≤ PAGE_BYTES }
+    ensures { page.new.number ≡ page.old.number }
+{
+    page.write(offset, bytes);
+    wanted[offset..offset + bytes.len()].copy_from_slice(bytes);
+}
+
+// A page that has one byte more than a patch, and then bytes on both sides of the borders of lines.
+fn outgrow(rt: &impl Abort, page: &mut PatchedFrame)
+    ensures { page.new.number ≡ page.old.number }
+{
+    let mut wanted = [0; PAGE_BYTES];
+    write_both(
+        page,
+        &mut wanted,
+        58,
+        &[1, 2, 3, 4, 5, 6, 7, 8, 9, 10, 11, 12],
+    );
+    check_page(rt, page, &wanted);
+    write_both(page, &mut wanted, 200, &[13]);
+    check_page(rt, page, &wanted);
+    write_both(page, &mut wanted, 127, &[14, 15]);
+    write_both(page, &mut wanted, 4032, &[16]);
+    write_both(page, &mut wanted, 4095, &[]);
+    check_page(rt, page, &wanted);
+    check_five(rt, page, 62, [5, 6, 7, 8, 9]);
+    check_five(rt, page, 4030, [0, 0, 16, 0, 0]);
+    write_both(page, &mut wanted, 320, &[17; 192]);
+    check_page(rt, page, &wanted);
+}
+
+#[test]
+#[tactic(auto, using(vm_frames::proofs::NumberSets::set_members))]
+fn a_frame_shows_the_lines_that_were_written(rt: HostRuntime) {
+    let mut machine = Machine::new(rt.alloc(), 1).expect(&rt, "memory");
+    let mut frame = machine.take().expect(&rt, "a free frame");
+    *frame.bytes_mut() = [255; PAGE_BYTES];
+    let mut page = PatchedFrame::new(frame);
+    page.set_patch(Patch::new());
+    outgrow(&rt, &mut page);
+    // The other way out of a patch: the frame gets all bytes.
+    page.set_patch(Patch::new());
+    page.write(63, &[1, 2]);
+    let mut buffer = [7; PAGE_BYTES];
+    page.exchange(&mut buffer);
+    check_eq(
+        &rt,
+        [buffer[62], buffer[63], buffer[64], buffer[65]],
+        [0, 1, 2, 0],
+    );
+    check_five(&rt, &page, 62, [7, 7, 7, 7, 7]);
+    machine.give(page.release());
     close_machine(&rt, machine, 1);
 }
