@@ -86,7 +86,7 @@ impl SwapArea {
     {
         let capacity = self.capacity + more;
         self.whole.reserve(usable(capacity))?;
-        self.few.reserve(usable(capacity))?;
+        self.few.reserve_moving(usable(capacity))?;
         self.capacity = capacity;
         Ok(())
     }

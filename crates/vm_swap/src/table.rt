@@ -75,6 +75,36 @@ impl<V: Drop> Table<V> {
         self.slots.reserve_exact(more)
     }
 
+    // As `reserve`, for small values. Where few of them are there they move to new memory, since what is grown in place may be
+    // copied whole, with all of the room that was never used.
+    pub(crate) fn reserve_moving(&mut self, room: usize) -> Result<(), AllocError>
+        ensures values { self.new.values ≡ self.old.values }
+        ensures room { OnOk result (room ≤ self.new.room) }
+        ensures kept { self.old.room ≤ self.new.room }
+        ensures refused { OnErr result (self.old.room < room) }
+    {
+        if self.slots.len() <= self.slots.capacity() / 8 {
+            self.move_to(room)
+        } else {
+            self.reserve(room)
+        }
+    }
+
+    // Moves the values to new memory for so many, where there is less.
+    fn move_to(&mut self, room: usize) -> Result<(), AllocError>
+        ensures values { self.new.values ≡ self.old.values }
+        ensures room { OnOk result (room ≤ self.new.room) }
+        ensures kept { self.old.room ≤ self.new.room }
+        ensures refused { OnErr result (self.old.room < room) }
+    {
+        if room > self.slots.capacity() {
+            let mut slots = Vec::with_capacity(*self.slots.allocator(), room)?;
+            slots.append(&mut self.slots).unwrap();
+            self.slots = slots;
+        }
+        Ok(())
+    }
+
     // The value of a page.
     pub(crate) fn get(&self, page: u32) -> Option<&V>
         ensures { option_copied result ≡ map.get self.now.values page }
