@@ -9,6 +9,12 @@ pub trait Gate {
 
     /// Called after the job was run, before it is finished.
     fn leave(&self, number: u32);
+
+    /// Whether neither call ever waits, whatever threads passed before: then a round with little to do needs no further thread. No,
+    /// unless a gate says so.
+    fn never_waits(&self) -> bool {
+        false
+    }
 }
 
 /// The gate that does nothing.
@@ -19,4 +25,8 @@ impl Gate for Open {
     fn enter(&self, _number: u32) {}
 
     fn leave(&self, _number: u32) {}
+
+    fn never_waits(&self) -> bool {
+        true
+    }
 }

@@ -5,7 +5,7 @@ ghost use Rattle.vm_guest.specs.Boundary.{granted, lowered, ordered, released, r
 ghost use Rattle.vm_guest.specs.Frames.{GivesOut, TakesBack, TakesBackSome, with_frame};
 ghost use Rattle.vm_guest.specs.Good.{HasNothingPosted};
 ghost use Rattle.vm_guest.specs.Memory.{bytes_of};
-ghost use Rattle.vm_guest.specs.Record.{reserve};
+ghost use Rattle.vm_guest.specs.Record.{reserve, steps_ahead};
 ghost use Rattle.vm_guest.specs.Room.{room_for};
 ghost use Rattle.vm_guest.specs.Start.{started};
 ghost use Rattle.vm_guest.specs.State.{state_epoch, with_guest, IsBacked};
@@ -100,6 +100,14 @@ impl Guest {
         self.parts.reads.reserve(room)?;
         self.prepared = true;
         Ok(())
+    }
+
+    /// How many steps of its trace are in the guest's next epoch, if it doesn't stall and isn't blocked.
+    pub fn steps_ahead(&self) -> u32
+        ensures { result ≡ steps_ahead self.now.guest }
+    {
+        let left = self.parts.spec.trace.len() - self.parts.progress.position as usize;
+        left.min(self.parts.spec.quantum as usize) as u32
     }
 
     /// Runs an epoch, unless the guest is blocked: its driver acts, it runs as many steps as its quantum says, idle ones after its

@@ -369,6 +369,8 @@ impl Pool {
     /// Each running guest runs its epoch, on at most `workers` threads, the caller's among them. Guests are numbered in order;
     /// a thread enters the gate with a guest's number before it runs the guest, and leaves it after.
     ///
+    /// Where the gate never waits, no more threads are used than have enough to do: a short epoch doesn't wait for threads to start.
+    ///
     /// Each guest has to be served. Memory is asked for only where a guest runs; where it is refused, no guest runs its epoch, and
     /// nothing changes.
     pub fn epoch<R: Threads + Sync, G: Gate + Sync>(

@@ -1,9 +1,11 @@
 // The epochs of all guests, on threads.
-ghost use Rattle.std.specs.Prelude.{◌≡◌, ◌+◌, ◌++◌, ◌<◌, ◌≤◌, [], ◌∷◌, All, EachIndex, IfOk, IfErr, IsTrue, ◌↔◌, OnOk, OnErr, count_by, length, map, false, true, vec_len, vec_capacity, slice_index_or};
+ghost use Rattle.std.specs.Prelude.{◌≡◌, ◌+◌, ◌/◌, ◌++◌, ◌<◌, ◌≤◌, [], ◌∷◌, All, EachIndex, IfOk, IfErr, IsTrue, ◌↔◌, OnOk, OnErr, count_by, length, map, max, min, false, true, vec_len, vec_capacity, slice_index_or};
 ghost use Rattle.vm_pool.specs.declared.slot.Slot.TheVariants.{Away};
 ghost use Rattle.vm_pool.specs.Changes.{IsServed};
+ghost use Rattle.vm_pool.specs.Guests.{number_of, total};
 ghost use Rattle.vm_pool.specs.Pool.{running_count};
 ghost use Rattle.vm_pool.specs.Slots.{guest_in, is_away, is_prepared, slot_run, unprepared, IsSettled};
+ghost use Rattle.vm_pool.specs.Work.{epoch_work, is_mostly_out};
 ghost use Rattle.vm_pool.specs.Turns.{back_in, left_slot, running_in, Arrives, MayRun};
 
 use crate::slot::{Slot, fill, guest_of};
@@ -12,6 +14,10 @@ use std::alloc::{AllocError, Global};
 use std::mem;
 use std::thread::Threads;
 use vm_board::{Gate, Jobs, run_round};
+use vm_guest::Guest;
+
+// The least work for which a thread is used, in steps that find their pages in: they take two to three times as long as its start.
+const WORK_OF_A_THREAD: u64 = 1000;
 
 // Each guest runs its epoch, on at most so many threads. Where memory is refused, which is only where a guest runs, none does, and there
 // may be room for the epochs of some.
@@ -33,10 +39,80 @@ pub(crate) fn run_epochs<R: Threads + Sync, G: Gate + Sync>(
     if !has_guests(slots) {
         return Ok(());
     }
-    if workers == 1 {
+    // In a gate that may wait, a thread may need another one to go on.
+    let threads = if gate.never_waits() {
+        threads_worth(workers, slots)
+    } else {
+        workers
+    };
+    if threads == 1 {
         return run_alone(gate, slots);
     }
-    run_turns(rt, alloc, gate, workers, slots)
+    run_turns(rt, alloc, gate, threads, slots)
+}
+
+// On how many threads the epochs are run, where each of them has to be worth its start.
+fn threads_worth(workers: u32, slots: &[Slot]) -> u32
+    requires workers { 0 < workers }
+    requires few { length slots.now ≤ 256 }
+    ensures { result ≡ max 1 (min workers (total epoch_work (map guest_in slots.now) / 1000)) }
+{
+    if workers == 1 {
+        return 1;
+    }
+    threads_for(work_ahead(slots), workers)
+}
+
+// As many threads as have enough work each, at least one and at most so many.
+fn threads_for(work: u64, most: u32) -> u32
+    requires { 0 < most }
+    ensures { result ≡ max 1 (min most (work / 1000)) }
+{
+    u64::from(most).min(work / WORK_OF_A_THREAD).max(1) as u32
+}
+
+// How much work the epochs of all guests are together.
+fn work_ahead(slots: &[Slot]) -> u64
+    requires few { length slots.now ≤ 256 }
+    ensures { result ≡ total epoch_work (map guest_in slots.now) }
+{
+    let mut work = 0;
+    for slot in slots {
+        work += work_in(slot);
+    }
+    work
+}
+
+// How much work the epoch of a slot's guest is, if one runs there.
+fn work_in(slot: &Slot) -> u64
+    ensures work { result ≡ number_of epoch_work (guest_in slot.now) }
+    ensures few { result ≤ 34359738360 }
+{
+    match guest_of(slot) {
+        Some(guest) => work_of(guest),
+        None => 0,
+    }
+}
+
+// How much work the epoch of a guest is. What is shown of it is looked at only where a step is left.
+fn work_of(guest: &Guest) -> u64
+    ensures work { result ≡ epoch_work guest.now.guest }
+    ensures few { result ≤ 34359738360 }
+{
+    let steps = u64::from(guest.steps_ahead());
+    if steps > 0 && is_mostly_out(guest) {
+        8 * steps
+    } else {
+        steps
+    }
+}
+
+// Whether more pages of a guest are in its swap area than have a frame.
+fn is_mostly_out(guest: &Guest) -> bool
+    ensures { result ≡ is_mostly_out guest.now.guest }
+{
+    let view = guest.view();
+    view.resident < view.swapped
 }
 
 // Whether a guest runs in any of these slots.

@@ -1,14 +1,15 @@
 // Pools from their start to their end, by worked examples.
-ghost use Rattle.std.specs.Prelude.{◌≡◌, ◌≤◌, ◌+◌, All, OnOk, length, vec_len};
+ghost use Rattle.std.specs.Prelude.{◌≡◌, ◌≤◌, ◌+◌, All, IfOk, OnOk, length, vec_len};
 ghost use Rattle.vm_trace.specs.Limits.{IsStep, IsWithin};
 
+use std::alloc::Global;
 use std::fmt::Debug;
 use std::process::Abort;
 use std::sync::atomic::{AtomicU64, Ordering};
 use std::test::Fail;
 use std::thread::Threads;
 use std::{array, thread};
-use vm_pool::{Gate, GuestSpec, Open, PageRead, Pool};
+use vm_pool::{Gate, GuestSpec, GuestView, Open, PageRead, Pool};
 use vm_trace::{Bytes, Trace, parse_step_within};
 
 // Asserts that both are the same. It stands here once, since what says how two values differ is proved wherever it stands.
@@ -502,4 +503,95 @@ fn where_memory_is_refused_nothing_changes(rt: HostRuntime) -> Result<(), Fail> 
     }
     pool.close();
     Ok(())
+}
+
+// A trace of so many writes to the pages of a guest that has eight, one after the other.
+fn writes(alloc: Global, count: u32) -> Result<Trace, Fail>
+    requires { count ≤ 1000000 }
+    ensures within { IfOk result (λ trace. All (IsWithin 8) trace) }
+    ensures bounded { IfOk result (λ trace. All IsStep trace) }
+    ensures length { IfOk result (λ trace. length trace ≡ count) }
+{
+    let texts = [
+        "w 0 0 0a", "w 1 0 0b", "w 2 0 0c", "w 3 0 0d", "w 4 0 0e", "w 5 0 0f", "w 6 0 10",
+        "w 7 0 11",
+    ];
+    let mut trace = Trace::new(alloc);
+    for number in 0..count {
+        add_step(&mut trace, 8, texts[number as usize % 8])?;
+    }
+    Ok(trace)
+}
+
+// A guest of eight pages with half of them in frames, which runs so many writes in epochs of this quantum.
+fn writer(alloc: Global, count: u32, quantum: u32) -> Result<GuestSpec, Fail>
+    requires few { count ≤ 1000000 }
+    requires quantum { (1 ≤ quantum) × (quantum ≤ 65536) }
+{
+    Ok(GuestSpec {
+        quantum,
+        ..guest_of(8, 4, writes(alloc, count)?)
+    })
+}
+
+// A pool with two such guests.
+fn two_writers(rt: &(impl AllocGlobal + Abort), count: u32, quantum: u32) -> Result<Pool, Fail>
+    requires few { count ≤ 1000000 }
+    requires quantum { (1 ≤ quantum) × (quantum ≤ 65536) }
+{
+    let alloc = rt.alloc();
+    let first = writer(alloc, count, quantum)?;
+    let second = writer(alloc, count, quantum)?;
+    let specs = Vec::from_array(alloc, [first, second])?;
+    match Pool::new(alloc, 20, 0, specs) {
+        Ok(pool) => Ok(pool),
+        Err(_specs) => Err(Fail::from("memory")),
+    }
+}
+
+// What is shown of two such guests after as many epochs as their writes take.
+fn shown_after(
+    rt: &(impl AllocGlobal + Abort + Threads + Sync),
+    gate: &(impl Gate + Sync),
+    workers: u32,
+    epochs: u32,
+    quantum: u32,
+) -> Result<[Option<GuestView>; 2], Fail>
+    requires workers { (1 ≤ workers) × (workers ≤ 64) }
+    requires epochs { epochs ≤ 100 }
+    requires quantum { (1 ≤ quantum) × (quantum ≤ 10000) }
+{
+    let mut pool = two_writers(rt, epochs * quantum, quantum)?;
+    start(rt, &mut pool, 0);
+    start(rt, &mut pool, 1);
+    for _ in 0..epochs {
+        run(rt, gate, workers, &mut pool);
+    }
+    let shown = [pool.view(0), pool.view(1)];
+    pool.close();
+    Ok(shown)
+}
+
+// Asserts that so many epochs leave the same guests on any number of workers, whether or not the gate may wait.
+fn check_shared(
+    rt: &(impl AllocGlobal + Abort + Threads + Sync),
+    epochs: u32,
+    quantum: u32,
+) -> Result<(), Fail>
+    requires epochs { epochs ≤ 100 }
+    requires quantum { (1 ≤ quantum) × (quantum ≤ 10000) }
+{
+    let alone = shown_after(rt, &Open, 1, epochs, quantum)?;
+    let open = shown_after(rt, &Open, 2, epochs, quantum)?;
+    let most = shown_after(rt, &Open, 64, epochs, quantum)?;
+    let gated = shown_after(rt, &no_passages(), 2, epochs, quantum)?;
+    check_eq(rt, [open, most, gated], [alone, alone, alone]);
+    Ok(())
+}
+
+// Epochs of few steps stay on one thread where the gate never waits, and those of many are shared.
+#[test]
+fn epochs_are_the_same_however_they_are_shared(rt: HostRuntime) -> Result<(), Fail> {
+    check_shared(&rt, 100, 3)?;
+    check_shared(&rt, 5, 1500)
 }

@@ -1,13 +1,14 @@
 //! Runs whole configurations, and compares what is written with the reports that are wanted.
 //!
-//! In the folder where it runs, `NAME.json` is a configuration and `NAME.report` its report. Each is run on 1, 2, 5 and 64 workers.
-//! A line `NAME ok` says that all of them wrote that report and nothing else, and `NAME differs` that one did not.
+//! In the folder where it runs, `NAME.json` is a configuration and `NAME.report` its report. Each is run on 1, 2, 5 and 64 workers,
+//! once with threads only where they have enough to do, and once with as many as are asked for. A line `NAME ok` says that all of
+//! them wrote that report and nothing else, and `NAME differs` that one did not.
 #![tactic(auto)]
 
 use std::alloc::Global;
 use std::thread::Threads;
 use std::{fs, io};
-use vm_sim::{Open, Watched, run};
+use vm_sim::{Gate, Open, Watched, run};
 
 const NAMES: [&str; 37] = [
     "admission",
@@ -51,27 +52,43 @@ const NAMES: [&str; 37] = [
 
 const WORKERS: [u32; 4] = [1, 2, 5, 64];
 
+/// A gate that does nothing, and does not say that it never waits: so short epochs run on threads too.
+struct Silent;
+
+impl Gate for Silent {
+    fn enter(&self, _number: u32) {}
+
+    fn leave(&self, _number: u32) {}
+}
+
 /// What a run of the configuration writes, if it comes to its end.
-fn written<RT: Threads + Sync>(
+fn written<RT: Threads + Sync, G: Gate + Sync>(
     rt: &RT,
     alloc: Global,
+    gate: &G,
     config: &[u8],
     workers: u32,
 ) -> Option<Vec<u8>> {
     let mut report = Vec::new(alloc);
     let mut reader = Watched::new(config);
     let mut writer = Watched::new(&mut report);
-    match run(rt, alloc, &Open, workers, &mut reader, &mut writer) {
+    match run(rt, alloc, gate, workers, &mut reader, &mut writer) {
         Ok(host) => host.close(),
         Err(_) => return None,
     }
     Some(report)
 }
 
-/// Whether a run on each number of workers writes this report.
-fn agrees<RT: Threads + Sync>(rt: &RT, alloc: Global, config: &[u8], report: &[u8]) -> bool {
+/// Whether a run through this gate on each number of workers writes this report.
+fn agrees_through<RT: Threads + Sync, G: Gate + Sync>(
+    rt: &RT,
+    alloc: Global,
+    gate: &G,
+    config: &[u8],
+    report: &[u8],
+) -> bool {
     for workers in WORKERS {
-        let Some(told) = written(rt, alloc, config, workers) else {
+        let Some(told) = written(rt, alloc, gate, config, workers) else {
             return false;
         };
         if told.as_slice() != report {
@@ -79,6 +96,12 @@ fn agrees<RT: Threads + Sync>(rt: &RT, alloc: Global, config: &[u8], report: &[u
         }
     }
     true
+}
+
+/// Whether it does so through both gates.
+fn agrees<RT: Threads + Sync>(rt: &RT, alloc: Global, config: &[u8], report: &[u8]) -> bool {
+    agrees_through(rt, alloc, &Open, config, report)
+        && agrees_through(rt, alloc, &Silent, config, report)
 }
 
 fn main(rt: HostRuntime) -> io::Result<()> {
