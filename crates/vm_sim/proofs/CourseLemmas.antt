@@ -46,31 +46,31 @@ module _ (epochs : ℕ) (agenda : Agenda) (first : World) where
 
 -- ---- a new host has the course of its configuration
 
-module _ (c : Config) (w : World) (is : w ≡ first_world c.machine c.domains) where
-  pub world_of_new : (host : World) → host ≡ world_in (course_from c.epochs (agenda_of c) w) c.epochs → host ≡ world_after c c.epochs
-  world_of_new host after = after ∙ ap (λ (v : World). world_in (course_from c.epochs (agenda_of c) v) c.epochs) is
+module _ (c : Config) (agenda : Agenda) (asks : agenda ≡ agenda_of c) (w : World) (is : w ≡ first_world c.machine c.domains) where
+  pub world_of_new : (host : World) → host ≡ world_in (course_from c.epochs agenda w) c.epochs → host ≡ world_after c c.epochs
+  world_of_new host after = after ∙ λ i. world_in (course_from c.epochs (asks i) (is i)) c.epochs
 
-  report_of_new : report_in (course_from c.epochs (agenda_of c) w) ≡ report_of c
-  report_of_new = ap (λ (v : World). report_in (course_from c.epochs (agenda_of c) v)) is
+  report_of_new : report_in (course_from c.epochs agenda w) ≡ report_of c
+  report_of_new = λ i. report_in (course_from c.epochs (asks i) (is i))
 
-  pub written_of_new : (x y : Option (List ℕ)) → Appends x y (report_in (course_from c.epochs (agenda_of c) w)) → Appends x y (report_of c)
+  pub written_of_new : (x y : Option (List ℕ)) → Appends x y (report_in (course_from c.epochs agenda w)) → Appends x y (report_of c)
   written_of_new x y written = subst (λ (text : List ℕ). Appends x y text) report_of_new written
 
-  pub front_of_new : (x y : Option (List ℕ)) → AppendsFront x y (report_in (course_from c.epochs (agenda_of c) w)) → AppendsFront x y (report_of c)
+  pub front_of_new : (x y : Option (List ℕ)) → AppendsFront x y (report_in (course_from c.epochs agenda w)) → AppendsFront x y (report_of c)
   front_of_new x y front = subst (λ (text : List ℕ). AppendsFront x y text) report_of_new front
 
   -- the same of a run that may have failed
-  pub world_of_run : {E : Type 0} (r : Result World E) → IfOk r (λ host. host ≡ world_in (course_from c.epochs (agenda_of c) w) c.epochs)
+  pub world_of_run : {E : Type 0} (r : Result World E) → IfOk r (λ host. host ≡ world_in (course_from c.epochs agenda w) c.epochs)
       → IfOk r (λ host. host ≡ world_after c c.epochs)
   world_of_run (Ok host) after = world_of_new host after
   world_of_run (Err e) after = tt
 
-  pub written_of_run : {T E : Type 0} (r : Result T E) (x y : Option (List ℕ)) → OnOk r (Appends x y (report_in (course_from c.epochs (agenda_of c) w)))
+  pub written_of_run : {T E : Type 0} (r : Result T E) (x y : Option (List ℕ)) → OnOk r (Appends x y (report_in (course_from c.epochs agenda w)))
       → IfOk r (λ _. Appends x y (report_of c))
   written_of_run (Ok host) x y written = written_of_new x y written
   written_of_run (Err e) x y written = tt
 
-  pub front_of_run : {T E : Type 0} (r : Result T E) (x y : Option (List ℕ)) → OnErr r (AppendsFront x y (report_in (course_from c.epochs (agenda_of c) w)))
+  pub front_of_run : {T E : Type 0} (r : Result T E) (x y : Option (List ℕ)) → OnErr r (AppendsFront x y (report_in (course_from c.epochs agenda w)))
       → OnErr r (AppendsFront x y (report_of c))
   front_of_run (Ok host) x y front = tt
   front_of_run (Err e) x y front = front_of_new x y front

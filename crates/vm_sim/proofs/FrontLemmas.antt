@@ -3,7 +3,7 @@ use Rattle.std.proofs.Common.{◌≡◌, ℕ, zero, suc, ◌+◌, ◌-◌, ◌<�
 use Rattle.std.proofs.lemmas.List.{append-nil}
 use Rattle.std.specs.Io.KnownBytes.{Appends}
 use Rattle.vm_sim.specs.Streams.{AppendsFront}
-use Rattle.vm_sim.proofs.StreamLemmas.{Appends-then, Appends-then_front, AppendsFront-longer}
+use Rattle.vm_sim.proofs.StreamLemmas.{Appends-then, Appends-then_front, AppendsFront-longer, AppendsFront-none}
 use Rattle.vm_sim.specs.Course.{Course, world_in}
 use Rattle.vm_sim.specs.Report.{end_text, report_in, told_at, told_before}
 
@@ -33,6 +33,10 @@ report_at_epoch course k h =
 on_err : {T E P : Type 0} (r : Result T E) → P → OnErr r P
 on_err (Ok x) p = tt
 on_err (Err e) p = p
+
+-- nothing was told yet
+pub cut_at_start : {T E : Type 0} (r : Result T E) (x : Option (List ℕ)) (text : List ℕ) → OnErr r (AppendsFront x x text)
+cut_at_start r x text = on_err r (AppendsFront-none x text)
 
 -- the epochs so far were told, and a front of the next one
 pub cut_in_epoch : {T E : Type 0} (r : Result T E) (x y z : Option (List ℕ)) (course : Course) (k : ℕ)

@@ -1,6 +1,7 @@
 pub mod StreamLemmas
 pub mod FrontLemmas
 pub mod PositionLemmas
+pub mod CalendarLemmas
 pub mod CourseLemmas
 pub mod HeadlineLemmas
 pub mod MigrationLemmas

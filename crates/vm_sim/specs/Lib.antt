@@ -1,6 +1,7 @@
 pub mod Streams
 pub mod Lines
 pub mod Course
+pub mod Calendar
 pub mod Report
 pub mod RunErrors
 pub mod Run

@@ -3,15 +3,32 @@ ghost use Rattle.std.specs.Prelude.{◌≡◌, ◌++◌, ◌∷◌, [], IfOk, On
 ghost use Rattle.vm_sim.specs.Course.{autostart_lines, lines_for, lines_of_epoch, start_line};
 ghost use Rattle.vm_sim.specs.Report.{name_at};
 
+use crate::calendar::Calendar;
 use std::alloc::{AllocError, Global};
-use vm_config::{Autostart, Schedule, Scheduled};
+use vm_config::{Autostart, Schedule};
 use vm_host::{Host, Lines};
 
 // The domains that start by themselves, and the command lines.
 #[derive(Drop)]
 pub(crate) struct Agenda {
     pub(crate) autostart: Autostart,
-    pub(crate) commands: Schedule,
+    pub(crate) commands: Calendar,
+}
+
+impl Agenda {
+    pub(crate) fn new(
+        alloc: Global,
+        autostart: Autostart,
+        commands: Schedule,
+    ) -> Result<Self, AllocError>
+        ensures { IfOk result (λ agenda. agenda ≡ record { autostart = autostart; commands = commands }) }
+    {
+        let commands = Calendar::new(alloc, commands)?;
+        Ok(Agenda {
+            autostart,
+            commands,
+        })
+    }
 }
 
 // The line that starts the domain at a position.
@@ -52,14 +69,14 @@ fn push_starts(
     Ok(())
 }
 
-// The lines of an epoch, in the order of the configuration.
-fn push_commands(number: u32, commands: &[Scheduled], lines: &mut Lines) -> Result<(), AllocError>
+// The lines of an epoch, in the order of the configuration. It looks at no command of another one.
+fn push_commands(number: u32, commands: &Calendar, lines: &mut Lines) -> Result<(), AllocError>
     ensures { OnOk result (lines.new ≡ lines.old ++ lines_of_epoch number commands.now) }
 {
-    for command in commands {
-        if command.at() == number {
-            lines.push(command.line())?;
-        }
+    let mut position = commands.first_of(number);
+    while position < commands.lines().len() {
+        lines.push(commands.lines()[position].line())?;
+        position = commands.next_of(position);
     }
     Ok(())
 }
@@ -77,6 +94,6 @@ pub(crate) fn lines_for(
     if number == 0 {
         push_starts(alloc, host, agenda.autostart.flags(), &mut lines)?;
     }
-    push_commands(number, agenda.commands.lines(), &mut lines)?;
+    push_commands(number, &agenda.commands, &mut lines)?;
     Ok(lines)
 }

@@ -10,6 +10,7 @@
 #![tactic(auto)]
 
 mod agenda;
+mod calendar;
 mod crew;
 mod input;
 mod law;

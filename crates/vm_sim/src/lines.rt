@@ -1,13 +1,34 @@
 // The lines of a report.
-ghost use Rattle.std.specs.Prelude.{◌≡◌, ◌++◌, OnOk, string_bytes};
+ghost use Rattle.std.specs.Prelude.{◌≡◌, ◌++◌, OnOk, codes, string_bytes};
+ghost use Rattle.std.specs.Fmt.{decimal};
 ghost use Rattle.std.specs.List.{flat_map};
 ghost use Rattle.vm_sim.specs.Lines.{block_line, command_line, count_line, fault_lines, guest_line, memory_line, memory_lines, move_line, number_line, outcome_lines, read_line, refusal_words, stall_line, state_line, state_word, statistics_lines};
 
-use crate::read_line::push_read;
+use crate::read_line::{push_read, put_char};
+use itoa::write_digits;
 use std::alloc::AllocError;
 use vm_balloon::Stats;
 use vm_guest::{GuestView, PageRead};
 use vm_host::{DomainStatistics, Outcome, Refusal, State};
+
+// ---- the ends of lines
+
+// Room for a space, a number of at most twenty digits and a line feed.
+const LAST_ROOM: usize = 22;
+
+// The last number of a line, behind a space. It is put together from its end.
+#[inline]
+fn push_last_number(text: &mut String, number: u64) -> Result<(), AllocError>
+    ensures { OnOk result (string_bytes text.new
+        ≡ string_bytes text.old ++ (codes " " ++ (decimal number ++ codes "\n"))) }
+{
+    let mut last = [0; LAST_ROOM];
+    let line_feed = put_char(&mut last, LAST_ROOM, b'\n');
+    let digits = write_digits(number, &mut last, line_feed);
+    let space = put_char(&mut last, digits, b' ');
+    // All that was put is ASCII.
+    text.push_str(unsafe { std::str::from_utf8_unchecked(&last[space..]) })
+}
 
 // ---- commands
 
@@ -33,7 +54,8 @@ fn refusal_words(refusal: Refusal) -> &'static str
 fn push_number(text: &mut String, name: &str, number: u64) -> Result<(), AllocError>
     ensures { OnOk result (string_bytes text.new ≡ string_bytes text.old ++ number_line name.now number) }
 {
-    writeln!(text, "{name} {number}")
+    text.push_str(name)?;
+    push_last_number(text, number)
 }
 
 // A count, if the driver told it.
@@ -123,7 +145,10 @@ pub(crate) fn push_move(
 ) -> Result<(), AllocError>
     ensures { OnOk result (string_bytes text.new ≡ string_bytes text.old ++ move_line word.now name.now count) }
 {
-    writeln!(text, "{word} {name} {count}")
+    text.push_str(word)?;
+    text.push_str(" ")?;
+    text.push_str(name)?;
+    push_last_number(text, u64::from(count))
 }
 
 // A guest that is blocked.
@@ -180,7 +205,9 @@ pub(crate) fn push_reads(
 pub(crate) fn push_stall(text: &mut String, name: &str, page: u32) -> Result<(), AllocError>
     ensures { OnOk result (string_bytes text.new ≡ string_bytes text.old ++ stall_line name.now page) }
 {
-    writeln!(text, "{name} stall {page}")
+    text.push_str(name)?;
+    text.push_str(" stall")?;
+    push_last_number(text, u64::from(page))
 }
 
 // ---- the end

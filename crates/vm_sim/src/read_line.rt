@@ -44,7 +44,7 @@ fn put_hex_byte(line: &mut [u8], at: usize, byte: u8)
 
 // Puts a character of ASCII before a place, and returns where it stands.
 #[inline(always)]
-fn put_char(line: &mut [u8], end: usize, character: u8) -> usize
+pub(crate) fn put_char(line: &mut [u8], end: usize, character: u8) -> usize
     requires room { 1 ≤ end }
     requires inside { end ≤ length line.old }
     ensures start { result + 1 ≡ end }

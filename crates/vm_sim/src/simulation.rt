@@ -230,10 +230,7 @@ fn simulate<RT: Threads + Sync, G: Gate + Sync, W: Sink>(
         autostart,
         commands,
     } = config;
-    let agenda = Agenda {
-        autostart,
-        commands,
-    };
+    let agenda = Agenda::new(alloc, autostart, commands)?;
     let Ok(host) = Host::new(alloc, machine, domains) else {
         return Err(RunError::Memory);
     };

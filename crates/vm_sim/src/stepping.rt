@@ -47,10 +47,7 @@ impl SteppedRun {
             autostart,
             commands,
         } = config;
-        let agenda = Agenda {
-            autostart,
-            commands,
-        };
+        let agenda = Agenda::new(alloc, autostart, commands)?;
         match Host::new(alloc, machine, domains) {
             Ok(host) => Ok(SteppedRun {
                 host,

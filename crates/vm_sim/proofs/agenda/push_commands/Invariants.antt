@@ -1,8 +1,13 @@
-use Rattle.std.proofs.Common.{◌≡◌, ◌++◌, drop}
+use Rattle.std.proofs.Common.{◌≡◌, ◌++◌, ◌-◌, IfSome, drop, length, slice_get}
 use Rattle.vm_sim.specs.Course.{lines_of_epoch}
 use Rattle.vm_sim.proofs.agenda.push_commands.Given as goal
 
--- the commands that are left complete the lines
-abbrev pub invariant-loop-command : goal.invariant-loop-command
-invariant-loop-command l =
-    l.lines ++ lines_of_epoch l.number (drop l.command-index l.commands) ≡ l.fn.lines ++ lines_of_epoch l.number l.commands
+-- the commands from the position on complete the lines
+abbrev pub invariant-loop-position : goal.invariant-loop-position
+invariant-loop-position l = record {
+  so_far : l.lines ++ lines_of_epoch l.number (drop l.position l.commands) ≡ l.fn.lines ++ lines_of_epoch l.number l.commands;
+  is_due : IfSome (slice_get l.commands l.position) (λ command. command.at ≡ l.number);
+}
+
+abbrev pub decreases-loop-position : goal.decreases-loop-position
+decreases-loop-position l = length l.commands - l.position
