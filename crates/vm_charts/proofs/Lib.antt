@@ -1,1 +1,2 @@
 pub mod PictureLemmas
+pub mod SampleLemmas

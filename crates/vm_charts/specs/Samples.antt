@@ -39,3 +39,11 @@ samples measure rows = map (sample measure) rows
 abbrev pub greatest : List (Option ℕ) → ℕ
 greatest [] = 0
 greatest (value ∷ values) = max (unwrap_or value 0) (greatest values)
+
+-- ---- the targets of a row
+
+abbrev pub target_in : Option GuestView → Option ℕ
+target_in view = option_map (λ g. g.target) view
+
+abbrev pub targets : Row → List (Option ℕ)
+targets row = map target_in row.views

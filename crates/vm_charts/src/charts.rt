@@ -1,5 +1,5 @@
 // The charts of a run.
-ghost use Rattle.std.specs.Prelude.{◌≡◌, ◌<◌, ◌≤◌, ◌++◌, ◌∷◌, [], map, string_bytes, OnOk, IfOk};
+ghost use Rattle.std.specs.Prelude.{◌≡◌, ◌<◌, ◌≤◌, ◌++◌, ◌∷◌, [], codes, map, string_bytes, OnOk, IfOk};
 ghost use Rattle.vm_series.specs.Csv.{name_at};
 ghost use Rattle.vm_charts.specs.Charts.{Draws, Shows, free_chart, graph, named_curve, page_chart, state_chart, target_chart, target_curve, told, Drawn};
 ghost use Rattle.vm_charts.specs.Samples.{greatest, samples};
@@ -8,8 +8,10 @@ ghost use Rattle.vm_charts.specs.declared.samples.Measure.TheVariants.{Total};
 ghost use Rattle.vm_charts.specs.declared.samples.Pages.TheVariants.{Ballooned, SwappedOut};
 
 use crate::element::{Curve, Element, Pixels, Style};
-use crate::furniture::{LEFT, add, add_axes, add_key, add_level, add_mark, add_words};
-use crate::samples::{Measure, Pages, greatest_of, greatest_target, has_values, samples};
+use crate::furniture::{LEFT, add, add_axes, add_key, add_level, add_mark, add_words, is_marked};
+use crate::samples::{
+    Measure, Pages, greatest, greatest_of, greatest_target, has_values, sample, samples,
+};
 use crate::scale::Chart;
 use crate::svg::document;
 use std::alloc::{AllocError, Global};
@@ -68,9 +70,9 @@ fn add_named(
     add_key(alloc, elements, chart, slot, number, name)
 }
 
-// The marks along a curve. They come behind all curves of a chart, so that none covers them.
+// The marks along a curve. They come behind all curves of a chart, so that none covers them. Only in the few epochs that have one
+// is the value asked for.
 fn add_marks(
-    alloc: Global,
     elements: &mut Vec<Element>,
     chart: Chart,
     rows: &[EpochRow],
@@ -79,9 +81,12 @@ fn add_marks(
 ) -> Result<(), AllocError>
     ensures { OnOk result (told elements.new.items ≡ told elements.old.items) }
 {
-    let values = samples(alloc, rows, measure)?;
-    for epoch in 0..values.len() {
-        add_mark(elements, chart, number, values.as_slice(), epoch)?;
+    let epochs = rows.len();
+    for epoch in 0..epochs {
+        if is_marked(epochs, epoch, number) {
+            let value = sample(&rows[epoch], measure);
+            add_mark(elements, chart, number, epochs, epoch, value)?;
+        }
     }
     Ok(())
 }
@@ -165,7 +170,6 @@ fn add_targets(
 }
 
 fn add_target_marks(
-    alloc: Global,
     elements: &mut Vec<Element>,
     chart: Chart,
     series: &Series,
@@ -175,7 +179,7 @@ fn add_target_marks(
     let rows = series.rows();
     for position in 0..series.names().len() {
         let target = Measure::Target(position);
-        add_marks(alloc, elements, chart, rows, position as u64, target)?;
+        add_marks(elements, chart, rows, position as u64, target)?;
     }
     Ok(())
 }
@@ -199,23 +203,48 @@ fn add_target_chart(
     )?;
     add_axes(alloc, elements, chart, series.rows().len(), "frames")?;
     let guests = add_targets(alloc, elements, chart, series)?;
-    add_target_marks(alloc, elements, chart, series)?;
+    add_target_marks(elements, chart, series)?;
     Ok(guests)
 }
 
+// The samples of the chart of the pages.
+#[derive(Drop)]
+struct PageSamples {
+    swapped: Vec<Option<u64>>,
+    ballooned: Vec<Option<u64>>,
+}
+
+fn page_samples(alloc: Global, rows: &[EpochRow]) -> Result<PageSamples, AllocError>
+    ensures swapped { IfOk result (λ pages. pages.swapped.items ≡ samples (Total SwappedOut) rows.now) }
+    ensures ballooned { IfOk result (λ pages. pages.ballooned.items ≡ samples (Total Ballooned) rows.now) }
+{
+    Ok(PageSamples {
+        swapped: samples(alloc, rows, Measure::Total(Pages::SwappedOut))?,
+        ballooned: samples(alloc, rows, Measure::Total(Pages::Ballooned))?,
+    })
+}
+
+// The curves of the chart of the pages.
 fn add_pages(
     alloc: Global,
     elements: &mut Vec<Element>,
     chart: Chart,
-    rows: &[EpochRow],
+    pages: PageSamples,
 ) -> Result<(), AllocError>
     ensures { OnOk result (told elements.new.items ≡ told elements.old.items
-        ++ page_chart chart.base chart.top rows.now) }
+        ++ (named_curve chart.base chart.top 0 (codes "swapped out") pages.swapped.items
+        ++ named_curve chart.base chart.top 1 (codes "in the balloons") pages.ballooned.items)) }
 {
-    let swapped = samples(alloc, rows, Measure::Total(Pages::SwappedOut))?;
-    add_named(alloc, elements, chart, 0, 0, "swapped out", swapped)?;
-    let ballooned = samples(alloc, rows, Measure::Total(Pages::Ballooned))?;
-    add_named(alloc, elements, chart, 1, 1, "in the balloons", ballooned)
+    add_named(alloc, elements, chart, 0, 0, "swapped out", pages.swapped)?;
+    add_named(
+        alloc,
+        elements,
+        chart,
+        1,
+        1,
+        "in the balloons",
+        pages.ballooned,
+    )
 }
 
 fn add_page_chart(
@@ -223,7 +252,10 @@ fn add_page_chart(
     elements: &mut Vec<Element>,
     chart: Chart,
     rows: &[EpochRow],
+    pages: PageSamples,
 ) -> Result<(), AllocError>
+    requires swapped { pages.swapped.items ≡ samples (Total SwappedOut) rows.now }
+    requires ballooned { pages.ballooned.items ≡ samples (Total Ballooned) rows.now }
     ensures { OnOk result (told elements.new.items ≡ told elements.old.items
         ++ page_chart chart.base chart.top rows.now) }
 {
@@ -231,10 +263,10 @@ fn add_page_chart(
     let title = "3. Pages of all guests swapped out and ballooned";
     add_words(alloc, elements, Style::Title, LEFT, y, title)?;
     add_axes(alloc, elements, chart, rows.len(), "pages")?;
-    add_pages(alloc, elements, chart, rows)?;
+    add_pages(alloc, elements, chart, pages)?;
     let (swapped, ballooned) = (Pages::SwappedOut, Pages::Ballooned);
-    add_marks(alloc, elements, chart, rows, 0, Measure::Total(swapped))?;
-    add_marks(alloc, elements, chart, rows, 1, Measure::Total(ballooned))?;
+    add_marks(elements, chart, rows, 0, Measure::Total(swapped))?;
+    add_marks(elements, chart, rows, 1, Measure::Total(ballooned))?;
     Ok(())
 }
 
@@ -271,15 +303,15 @@ fn add_heading(
 }
 
 // The chart of the pages, below the legend of the guests that ever run.
-fn page_scale(alloc: Global, rows: &[EpochRow], guests: u64) -> Result<Chart, AllocError>
-    ensures { IfOk result (λ chart. (greatest (samples (Total SwappedOut) rows.now) ≤ chart.top)
-        × (greatest (samples (Total Ballooned) rows.now) ≤ chart.top)) }
+fn page_scale(pages: &PageSamples, guests: u64) -> Chart
+    ensures swapped { greatest pages.now.swapped.items ≤ result.top }
+    ensures ballooned { greatest pages.now.ballooned.items ≤ result.top }
 {
-    let swapped = greatest_of(alloc, rows, Measure::Total(Pages::SwappedOut))?;
-    let ballooned = greatest_of(alloc, rows, Measure::Total(Pages::Ballooned))?;
+    let swapped = greatest(pages.swapped.as_slice());
+    let ballooned = greatest(pages.ballooned.as_slice());
     let lines = guests / 4 + u64::from(!guests.is_multiple_of(4));
     let base = lines.saturating_mul(24).saturating_add(1022);
-    Ok(Chart::reaching(base, swapped.max(ballooned)))
+    Chart::reaching(base, swapped.max(ballooned))
 }
 
 fn picture_of(alloc: Global, series: &Series) -> Result<Picture, AllocError>
@@ -291,12 +323,12 @@ fn picture_of(alloc: Global, series: &Series) -> Result<Picture, AllocError>
     add_state_chart(alloc, &mut elements, rows)?;
     let free = Chart::reaching(FREE_BASE, greatest_of(alloc, rows, Measure::Free)?);
     add_free_chart(alloc, &mut elements, free, rows)?;
-    let most = greatest_target(alloc, rows, series.names().len())?;
-    let targets = Chart::reaching(TARGET_BASE, most);
+    let targets = Chart::reaching(TARGET_BASE, greatest_target(rows));
     let guests = add_target_chart(alloc, &mut elements, targets, series)?;
-    let pages = page_scale(alloc, rows, guests)?;
-    add_page_chart(alloc, &mut elements, pages, rows)?;
-    let height = u128::from(pages.base) + 100;
+    let pages = page_samples(alloc, rows)?;
+    let scale = page_scale(&pages, guests);
+    add_page_chart(alloc, &mut elements, scale, rows, pages)?;
+    let height = u128::from(scale.base) + 100;
     Ok(Picture { height, elements })
 }
 

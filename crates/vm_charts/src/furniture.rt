@@ -162,7 +162,7 @@ pub(crate) fn add_axes(
 }
 
 // Whether a curve has its mark in an epoch: six or so along it, and not where the curves before and behind it have theirs.
-fn is_marked(epochs: usize, epoch: usize, number: u64) -> bool {
+pub(crate) fn is_marked(epochs: usize, epoch: usize, number: u64) -> bool {
     let stride = (epochs as u64 / 6).max(1);
     epoch as u64 % stride == number % stride
 }
@@ -177,24 +177,24 @@ fn mark_at(chart: Chart, number: u64, epochs: usize, epoch: usize, value: u64) -
     Mark { x, y, number }
 }
 
-// The mark of a curve in an epoch, if it has one there.
+// The mark of a curve in an epoch, if it has a value there.
 pub(crate) fn add_mark(
     elements: &mut Vec<Element>,
     chart: Chart,
     number: u64,
-    values: &[Option<u64>],
+    epochs: usize,
     epoch: usize,
+    value: Option<u64>,
 ) -> Result<(), AllocError>
-    requires { epoch < length values.now }
+    requires { 0 < epochs }
     ensures { OnOk result (told elements.new.items ≡ told elements.old.items) }
 {
-    let epochs = values.len();
-    match values[epoch] {
-        Some(value) if is_marked(epochs, epoch, number) => {
+    match value {
+        Some(value) => {
             let mark = mark_at(chart, number, epochs, epoch, value);
             furnish(elements, Element::Circle(mark))
         }
-        _ => Ok(()),
+        None => Ok(()),
     }
 }
 

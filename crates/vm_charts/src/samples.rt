@@ -1,8 +1,8 @@
 // What is seen of a host epoch by epoch, as numbers.
-ghost use Rattle.std.specs.Prelude.{◌≡◌, ◌<◌, ◌≤◌, ℕ, is_some, IfOk};
+ghost use Rattle.std.specs.Prelude.{◌≡◌, ◌≤◌, ℕ, is_some, max, IfOk};
 ghost use Rattle.std.specs.List.{list_any};
 ghost use Rattle.vm_plan.specs.State.{rank};
-ghost use Rattle.vm_charts.specs.Samples.{greatest, pages_in, pages_of, sample, samples, total};
+ghost use Rattle.vm_charts.specs.Samples.{greatest, pages_in, pages_of, sample, samples, target_in, targets, total};
 ghost use Rattle.vm_charts.specs.declared.samples.Measure.TheVariants.{Target};
 
 use std::alloc::{AllocError, Global};
@@ -70,7 +70,8 @@ fn total(pages: Pages, row: &EpochRow) -> u64
     sum
 }
 
-fn sample(row: &EpochRow, measure: Measure) -> Option<u64>
+// What a measure is after an epoch.
+pub(crate) fn sample(row: &EpochRow, measure: Measure) -> Option<u64>
     ensures { result ≡ sample measure row.now }
 {
     match measure {
@@ -89,7 +90,7 @@ pub(crate) fn samples(
 ) -> Result<Vec<Option<u64>>, AllocError>
     ensures { IfOk result (λ values. values.items ≡ samples measure rows.now) }
 {
-    let mut values = Vec::new(alloc);
+    let mut values = Vec::with_capacity(alloc, rows.len())?;
     for row in rows {
         values.push(sample(row, measure))?;
     }
@@ -119,20 +120,33 @@ pub(crate) fn greatest_of(
     Ok(greatest(values.as_slice()))
 }
 
-// The greatest target of the guests before a position.
-pub(crate) fn greatest_target(
-    alloc: Global,
-    rows: &[EpochRow],
-    positions: usize,
-) -> Result<u64, AllocError>
-    ensures { IfOk result (λ most. (position : ℕ) → position < positions
-        → greatest (samples (Target position) rows.now) ≤ most) }
+fn target_in(view: &Option<GuestView>) -> Option<u64>
+    ensures { result ≡ target_in view.now }
+{
+    view.map(|view| u64::from(view.target))
+}
+
+// The greatest target in a row, or what is given, if none is greater.
+fn greatest_in_row(row: &EpochRow, most: u64) -> u64
+    ensures { result ≡ max most (greatest (targets row.now)) }
+{
+    let views = row.views();
+    let mut reached = most;
+    for view in views {
+        reached = reached.max(target_in(view).unwrap_or(0));
+    }
+    reached
+}
+
+// The greatest target of all guests, row by row, since the views of a row lie side by side.
+pub(crate) fn greatest_target(rows: &[EpochRow]) -> u64
+    ensures { (position : ℕ) → greatest (samples (Target position) rows.now) ≤ result }
 {
     let mut most = 0;
-    for position in 0..positions {
-        most = greatest_of(alloc, rows, Measure::Target(position))?.max(most);
+    for row in rows {
+        most = greatest_in_row(row, most);
     }
-    Ok(most)
+    most
 }
 
 // Whether there is any value.

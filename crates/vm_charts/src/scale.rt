@@ -9,7 +9,10 @@ pub(crate) fn x_of(epochs: usize, epoch: usize) -> Pixels
     requires { 0 < epochs }
     ensures { result ≡ x_of epochs epoch }
 {
-    epoch as u128 * 880 / epochs as u128
+    match (epoch as u64).checked_mul(880) {
+        Some(product) => Pixels::from(product / epochs as u64),
+        None => epoch as u128 * 880 / epochs as u128,
+    }
 }
 
 // How high above a chart's base a value stands.
@@ -17,7 +20,10 @@ pub(crate) fn y_of(top: u64, value: u64) -> Pixels
     requires { 0 < top }
     ensures { result ≡ y_of top value }
 {
-    u128::from(value) * 200 / u128::from(top)
+    match value.checked_mul(200) {
+        Some(product) => Pixels::from(product / top),
+        None => u128::from(value) * 200 / u128::from(top),
+    }
 }
 
 // The least of 1, 2, 5, 10, 20, 50 and so on that is at least as great; the greatest number where there is none.

@@ -1,53 +1,19 @@
 // The rows of a run as comma-separated values.
-ghost use Rattle.std.specs.Prelude.{◌≡◌, ◌∷◌, [], map, IfOk, OnOk, string_bytes};
+ghost use Rattle.std.specs.Prelude.{◌≡◌, ◌++◌, ◌∷◌, [], length, map, IfOk, OnOk, string_bytes};
 ghost use Rattle.std.specs.Io.KnownBytes.{Appends, Keeps, append_known};
-ghost use Rattle.std.specs.List.{flat_map};
+ghost use Rattle.std.specs.List.{flat_map, range_with_len};
 ghost use Rattle.csv.specs.Writing.{text_written};
-ghost use Rattle.vm_sim.specs.Lines.{state_word};
-ghost use Rattle.vm_series.specs.Csv.{IsAtRecord, csv_text, flag, guest_record, guest_records, header, lone_record, name_at, number_or_empty, records_at, records_of, records_text};
+ghost use Rattle.vm_series.specs.Csv.{IsAtRecord, csv_text, header, records_text};
+ghost use Rattle.vm_series.specs.Records.{empty_text, epoch_text, head_text, name_text, piece_at, record_at, view_record};
 
+use crate::record_pieces::{EMPTY_LINE, Line, put_head, put_view};
 use crate::rows::{EpochRow, Series};
 use csv::{Error, Terminator, Writer, WriterBuilder};
-use itoa::Buffer;
 use std::alloc::{AllocError, Global};
 use std::io::Write;
-use vm_host::{GuestView, State};
+use vm_host::GuestView;
 
-fn state_word(state: State) -> &'static str
-    ensures { result.now ≡ state_word state }
-{
-    match state {
-        State::High => "high",
-        State::Soft => "soft",
-        State::Hard => "hard",
-        State::Low => "low",
-    }
-}
-
-fn flag(is_set: bool) -> &'static str
-    ensures { result.now ≡ flag is_set }
-{
-    if is_set { "1" } else { "0" }
-}
-
-// A number in a buffer, or an empty text.
-fn number_or_empty(buffer: &mut Buffer, number: Option<u32>) -> &str
-    ensures { result.now ≡ number_or_empty number }
-{
-    match number {
-        Some(number) => buffer.format(number),
-        None => "",
-    }
-}
-
-fn name_at(names: &[String], position: usize) -> &str
-    ensures { result.now ≡ name_at (map string_bytes names.now) position }
-{
-    match names.get(position) {
-        Some(name) => name.as_str(),
-        None => "",
-    }
-}
+// ---- what the kit's writer writes: the header, and each name, which may need quotes
 
 // The names of the fields.
 #[tactic(auto, unfolding(crate::specs::Csv::header))]
@@ -74,162 +40,6 @@ fn write_header<W: Write + Drop>(writer: &mut Writer<W>) -> Result<(), Error>
     ])
 }
 
-// An epoch in which no guest runs.
-#[tactic(auto, unfolding(crate::specs::Csv::lone_record))]
-fn write_lone<W: Write + Drop>(writer: &mut Writer<W>, row: &EpochRow) -> Result<(), Error>
-    requires { IsAtRecord writer.old }
-    ensures ready { OnOk result (IsAtRecord writer.new) }
-    ensures bytes { OnOk result (Appends (text_written W.contents writer.old) (text_written W.contents writer.new)
-        (records_text (lone_record row.now ∷ []))) }
-{
-    let (mut epoch, mut free) = (Buffer::new(), Buffer::new());
-    let empty = b"".as_slice();
-    writer.write_fields(&[
-        epoch.format(row.epoch()).as_bytes(),
-        state_word(row.state()).as_bytes(),
-        free.format(row.free()).as_bytes(),
-        empty,
-        empty,
-        empty,
-        empty,
-        empty,
-        empty,
-        empty,
-        empty,
-        empty,
-        empty,
-    ])
-}
-
-// An epoch, and a guest that runs in it.
-#[tactic(auto, unfolding(crate::specs::Csv::guest_record))]
-fn write_guest<W: Write + Drop>(
-    alloc: Global,
-    writer: &mut Writer<W>,
-    row: &EpochRow,
-    name: &str,
-    view: &GuestView,
-) -> Result<(), Error>
-    requires { IsAtRecord writer.old }
-    ensures ready { OnOk result (IsAtRecord writer.new) }
-    ensures bytes { OnOk result (Appends (text_written W.contents writer.old) (text_written W.contents writer.new)
-        (records_text (guest_record row.now name.now view.now ∷ []))) }
-{
-    let Ok(name) = String::from_str(alloc, name) else {
-        return Err(Error::out_of_memory());
-    };
-    let (mut epoch, mut free, mut target) = (Buffer::new(), Buffer::new(), Buffer::new());
-    let (mut held, mut resident, mut swapped) = (Buffer::new(), Buffer::new(), Buffer::new());
-    let (mut balloon, mut active, mut demand) = (Buffer::new(), Buffer::new(), Buffer::new());
-    let mut stalled = Buffer::new();
-    writer.write_fields(&[
-        epoch.format(row.epoch()).as_bytes(),
-        state_word(row.state()).as_bytes(),
-        free.format(row.free()).as_bytes(),
-        name.as_bytes(),
-        target.format(view.target).as_bytes(),
-        held.format(view.held).as_bytes(),
-        resident.format(view.resident).as_bytes(),
-        swapped.format(view.swapped).as_bytes(),
-        balloon.format(view.balloon).as_bytes(),
-        active.format(view.active).as_bytes(),
-        demand.format(view.demand).as_bytes(),
-        flag(view.blocked).as_bytes(),
-        number_or_empty(&mut stalled, view.stalled).as_bytes(),
-    ])
-}
-
-// The guest at a position, if one runs there.
-fn write_position<W: Write + Drop>(
-    alloc: Global,
-    writer: &mut Writer<W>,
-    names: &[String],
-    row: &EpochRow,
-    position: usize,
-) -> Result<(), Error>
-    requires { IsAtRecord writer.old }
-    ensures ready { OnOk result (IsAtRecord writer.new) }
-    ensures bytes { OnOk result (Appends (text_written W.contents writer.old) (text_written W.contents writer.new)
-        (records_text (records_at (map string_bytes names.now) row.now position))) }
-{
-    let name = name_at(names, position);
-    match row.view(position) {
-        Some(view) => write_guest(alloc, writer, row, name, &view),
-        None => Ok(()),
-    }
-}
-
-// The running guests.
-fn write_guests<W: Write + Drop>(
-    alloc: Global,
-    writer: &mut Writer<W>,
-    names: &[String],
-    row: &EpochRow,
-) -> Result<(), Error>
-    requires { IsAtRecord writer.old }
-    ensures ready { OnOk result (IsAtRecord writer.new) }
-    ensures bytes { OnOk result (Appends (text_written W.contents writer.old) (text_written W.contents writer.new)
-        (records_text (guest_records (map string_bytes names.now) row.now))) }
-{
-    for position in 0..row.views().len() {
-        write_position(alloc, writer, names, row, position)?;
-    }
-    Ok(())
-}
-
-// An epoch.
-fn write_row<W: Write + Drop>(
-    alloc: Global,
-    writer: &mut Writer<W>,
-    names: &[String],
-    row: &EpochRow,
-) -> Result<(), Error>
-    requires { IsAtRecord writer.old }
-    ensures ready { OnOk result (IsAtRecord writer.new) }
-    ensures bytes { OnOk result (Appends (text_written W.contents writer.old) (text_written W.contents writer.new)
-        (records_text (records_of (map string_bytes names.now) row.now))) }
-{
-    if row.has_guests() {
-        write_guests(alloc, writer, names, row)
-    } else {
-        write_lone(writer, row)
-    }
-}
-
-// All epochs.
-fn write_rows<W: Write + Drop>(
-    alloc: Global,
-    writer: &mut Writer<W>,
-    names: &[String],
-    rows: &[EpochRow],
-) -> Result<(), Error>
-    requires { IsAtRecord writer.old }
-    ensures ready { OnOk result (IsAtRecord writer.new) }
-    ensures bytes { OnOk result (Appends (text_written W.contents writer.old) (text_written W.contents writer.new)
-        (records_text (flat_map (records_of (map string_bytes names.now)) rows.now))) }
-{
-    for row in rows {
-        write_row(alloc, writer, names, row)?;
-    }
-    Ok(())
-}
-
-// The header, and all epochs.
-#[tactic(auto, unfolding(crate::specs::Csv::csv_text))]
-fn write_series<W: Write + Drop>(
-    alloc: Global,
-    writer: &mut Writer<W>,
-    series: &Series,
-) -> Result<(), Error>
-    requires { IsAtRecord writer.old }
-    ensures { OnOk result (Appends (text_written W.contents writer.old) (text_written W.contents writer.new)
-        (csv_text series.now)) }
-{
-    write_header(writer)?;
-    write_rows(alloc, writer, series.names(), series.rows())?;
-    Ok(())
-}
-
 // A writer that begins where another one stands.
 fn writer_over<W: Write + Drop>(inner: W) -> Writer<W>
     ensures ready { IsAtRecord result }
@@ -250,15 +60,128 @@ fn finished<W: Write + Drop>(writer: Writer<W>) -> Result<W, AllocError>
     }
 }
 
-// All of the text behind what a writer holds.
-fn write_text<W: Write + Drop>(alloc: Global, inner: W, series: &Series) -> Result<W, AllocError>
-    ensures { IfOk result (λ after. Appends (W.contents inner) (W.contents after) (csv_text series.now)) }
+// The header, with the end of its record.
+fn header_text(alloc: Global) -> Result<Vec<u8>, AllocError>
+    ensures { IfOk result (λ text. text.items ≡ records_text (header ∷ [])) }
 {
-    let mut writer = writer_over(inner);
-    let Ok(()) = write_series(alloc, &mut writer, series) else {
+    let mut writer = writer_over(Vec::new(alloc));
+    let Ok(()) = write_header(&mut writer) else {
         return Err(AllocError);
     };
     finished(writer)
+}
+
+// A comma and a name, with its quotes where it needs them.
+fn name_piece(alloc: Global, name: &str) -> Result<Vec<u8>, AllocError>
+    ensures { IfOk result (λ piece. piece.items ≡ name_text name.now) }
+{
+    let mut comma = Vec::new(alloc);
+    comma.push(b',')?;
+    let mut writer = writer_over(comma);
+    let Ok(()) = writer.write_field(name.as_bytes()) else {
+        return Err(AllocError);
+    };
+    finished(writer)
+}
+
+// The same of each name.
+fn name_pieces(alloc: Global, names: &[String]) -> Result<Vec<Vec<u8>>, AllocError>
+    ensures { IfOk result (λ pieces. map (λ piece. piece.items) pieces.items ≡ map name_text (map string_bytes names.now)) }
+{
+    let mut pieces = Vec::new(alloc);
+    for name in names {
+        let piece = name_piece(alloc, name.as_str())?;
+        pieces.push(piece)?;
+    }
+    Ok(pieces)
+}
+
+// ---- records, from pieces
+
+fn piece_at(pieces: &[Vec<u8>], position: usize) -> &[u8]
+    ensures { result.now ≡ piece_at (map (λ piece. piece.items) pieces.now) position }
+{
+    match pieces.get(position) {
+        Some(piece) => piece.as_slice(),
+        None => b",".as_slice(),
+    }
+}
+
+// The guest whose view it is, if one runs.
+fn push_view(
+    text: &mut Vec<u8>,
+    head: &[u8],
+    name: &[u8],
+    view: Option<GuestView>,
+    line: &mut Line,
+) -> Result<(), AllocError>
+    ensures { OnOk result (text.new.items ≡ text.old.items ++ view_record head.now name.now view) }
+{
+    let Some(view) = view else {
+        return Ok(());
+    };
+    let start = put_view(line, &view);
+    text.extend_from_slice(head)?;
+    text.extend_from_slice(name)?;
+    text.extend_from_slice(&line[start..])
+}
+
+// The running guests of an epoch.
+fn push_guests(
+    text: &mut Vec<u8>,
+    pieces: &[Vec<u8>],
+    row: &EpochRow,
+    head: &[u8],
+    line: &mut Line,
+) -> Result<(), AllocError>
+    requires { head.now ≡ head_text row.now }
+    ensures { OnOk result (text.new.items ≡ text.old.items
+        ++ flat_map (record_at (map (λ piece. piece.items) pieces.now) row.now) (range_with_len 0 (length row.now.views))) }
+{
+    for position in 0..row.views().len() {
+        let name = piece_at(pieces, position);
+        push_view(text, head, name, row.view(position), line)?;
+    }
+    Ok(())
+}
+
+// An epoch in which no guest runs.
+#[tactic(auto, unfolding(crate::specs::Records::empty_text))]
+fn push_lone(text: &mut Vec<u8>, head: &[u8]) -> Result<(), AllocError>
+    ensures { OnOk result (text.new.items ≡ text.old.items ++ (head.now ++ empty_text)) }
+{
+    text.extend_from_slice(head)?;
+    text.extend_from_slice(b",,,,,,,,,,\r\n")
+}
+
+// An epoch.
+fn push_row(
+    text: &mut Vec<u8>,
+    pieces: &[Vec<u8>],
+    row: &EpochRow,
+    line: &mut Line,
+) -> Result<(), AllocError>
+    ensures { OnOk result (text.new.items ≡ text.old.items ++ epoch_text (map (λ piece. piece.items) pieces.now) row.now) }
+{
+    let mut start_line = EMPTY_LINE;
+    let start = put_head(&mut start_line, row);
+    let head = &start_line[start..];
+    if row.has_guests() {
+        push_guests(text, pieces, row, head, line)
+    } else {
+        push_lone(text, head)
+    }
+}
+
+// All epochs.
+fn push_rows(text: &mut Vec<u8>, pieces: &[Vec<u8>], rows: &[EpochRow]) -> Result<(), AllocError>
+    ensures { OnOk result (text.new.items ≡ text.old.items ++ flat_map (epoch_text (map (λ piece. piece.items) pieces.now)) rows.now) }
+{
+    let mut line = EMPTY_LINE;
+    for row in rows {
+        push_row(text, pieces, row, &mut line)?;
+    }
+    Ok(())
 }
 
 /// The rows as comma-separated values (RFC 4180): a header, and then for each epoch, in order, a record for each running guest, in
@@ -281,5 +204,8 @@ fn write_text<W: Write + Drop>(alloc: Global, inner: W, series: &Series) -> Resu
 pub fn csv_text(alloc: Global, series: &Series) -> Result<Vec<u8>, AllocError>
     ensures { IfOk result (λ text. text.items ≡ csv_text series.now) }
 {
-    write_text(alloc, Vec::new(alloc), series)
+    let mut text = header_text(alloc)?;
+    let pieces = name_pieces(alloc, series.names())?;
+    push_rows(&mut text, pieces.as_slice(), series.rows())?;
+    Ok(text)
 }

@@ -34,7 +34,7 @@ fn views_of(alloc: Global, host: &Host) -> Result<Vec<Option<GuestView>>, AllocE
     ensures views { IfOk result (λ views. views.items ≡ map (view_at host.now) (positions host.now)) }
     ensures few { IfOk result (λ views. length views.items ≤ 256) }
 {
-    let mut views = Vec::new(alloc);
+    let mut views = Vec::with_capacity(alloc, host.len())?;
     for position in 0..host.len() {
         views.push(host.view(position))?;
     }

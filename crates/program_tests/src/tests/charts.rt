@@ -83,6 +83,27 @@ fn curves_have_gaps(rt: HostRuntime) {
     assert_count(&rt, &svg, "class=\"curve\"", 5);
 }
 
+// Three guests that run in 13 epochs.
+const MARKED: &str =
+    "{\"version\":1,\"frames\":100,\"epochs\":13,\"guests\":[{\"name\":\"a\",\"size\":4,\"min\":4},\
+{\"name\":\"b\",\"size\":4,\"min\":4},{\"name\":\"c\",\"size\":4,\"min\":4}]}";
+
+// A sixth of 13 epochs is 2: so the first curve of a chart and the third have their marks in the 7 even epochs, and the second in
+// the 6 odd ones. The first two numbers are also those of the curves of the pages.
+#[test]
+fn marks_are_a_sixth_apart(rt: HostRuntime) {
+    let svg = drawn(&rt, MARKED);
+    assert_count(&rt, &svg, " dy=\"4\">1</text>", 14);
+    assert_count(&rt, &svg, " dy=\"4\">2</text>", 12);
+    assert_count(&rt, &svg, " dy=\"4\">3</text>", 7);
+    // the last mark of the third guest is in the middle of epoch 12, from 812 to 880, on the line of the value 4 of 5
+    assert_shows(
+        &rt,
+        &svg,
+        "cx=\"936\" cy=\"550\" r=\"8\"/><text class=\"number\" x=\"936\" y=\"550\" dy=\"4\">3</text>",
+    );
+}
+
 const NO_GUESTS: &str = "{\"version\":1,\"frames\":10,\"epochs\":2,\"guests\":[]}";
 
 const NO_EPOCHS: &str = "{\"version\":1,\"frames\":10,\"epochs\":0,\"guests\":[]}";

@@ -47,6 +47,36 @@ fn rows_become_records(rt: HostRuntime) -> Result<(), Fail> {
     Ok(())
 }
 
+// Two idle guests of four pages, whose names are as long and as short as a name may be.
+const NAMES: &str =
+    "{\"version\":1,\"frames\":100,\"epochs\":11,\"guests\":[{\"name\":\"A_name.of-32-letters-and-digits.\",\"size\":4,\
+\"min\":4,\"period\":1000000},{\"name\":\"9\",\"size\":4,\"min\":4,\"period\":1000000}]}";
+
+// An epoch of one digit, one of two, and a number of six digits.
+#[test]
+fn records_are_as_long_as_their_fields(rt: HostRuntime) -> Result<(), Fail> {
+    let alloc = rt.alloc();
+    let mut records = String::new(alloc);
+    for epoch in 0..11u32 {
+        let fields = "4,4,0,0,0,65536,0,0,";
+        let long = format!(in alloc;
+            "{epoch},high,92,A_name.of-32-letters-and-digits.,{fields}\r\n"
+        )?;
+        let short = format!(in alloc; "{epoch},high,92,9,{fields}\r\n")?;
+        records.push_str(long.as_str())?;
+        records.push_str(short.as_str())?;
+    }
+    assert_records(&rt, 1, NAMES, records.as_str())?;
+    assert_records(&rt, 2, LARGE, LARGE_RECORDS)
+}
+
+// A guest of 200000 pages on a machine of 262144 frames, with an overhead of 100.
+const LARGE: &str =
+    "{\"version\":2,\"frames\":262144,\"overhead\":100,\"epochs\":1,\"guests\":[{\"name\":\"g\",\"size\":200000,\
+\"min\":200000}]}";
+
+const LARGE_RECORDS: &str = "0,high,62044,g,200000,200000,0,0,0,65536,0,0,\r\n";
+
 // Asserts frames, names and rows.
 fn assert_sizes(rt: &impl Abort, series: &Series, wanted: (u32, usize, usize)) {
     let sizes = (series.frames(), series.names().len(), series.rows().len());

@@ -1,0 +1,13 @@
+use Rattle.std.proofs.Common.{arith}
+use Rattle.std.proofs.lemmas.Fmt.{length-decimal-le}
+use Rattle.vm_series.proofs.record_pieces.put_digits.Goals as goal
+
+pub write_digits-requires : goal.write_digits-requires
+write_digits-requires c =
+    let short = length-decimal-le 20 c.args.number (omega arith) (omega arith) (omega arith) in
+    (omega arith, omega arith)
+
+pub returns-clause-short : goal.returns-clause-short
+returns-clause-short c =
+    let short = length-decimal-le 20 c.args.number (omega arith) (omega arith) (omega arith) in
+    omega arith
