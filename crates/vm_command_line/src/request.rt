@@ -14,7 +14,7 @@ use std::{env, io};
 /// What the words of a command line ask for.
 #[derive(Clone, Copy, Debug, PartialEq, Eq)]
 pub struct Request {
-    /// On how many threads the guests run: 1 to 64, and 1 where the words do not say.
+    /// On how many threads the guests run at most: 1 to 64, and 1 where the words do not say.
     pub workers: u32,
     /// Whether the flag of the command line is among the words.
     pub has_flag: bool,

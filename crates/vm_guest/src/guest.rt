@@ -5,11 +5,12 @@ ghost use Rattle.vm_guest.specs.Boundary.{granted, lowered, ordered, released, r
 ghost use Rattle.vm_guest.specs.Frames.{GivesOut, TakesBack, TakesBackSome, with_frame};
 ghost use Rattle.vm_guest.specs.Good.{HasNothingPosted};
 ghost use Rattle.vm_guest.specs.Memory.{bytes_of};
-ghost use Rattle.vm_guest.specs.Record.{reserve, steps_ahead};
+ghost use Rattle.vm_guest.specs.Record.{reserve};
 ghost use Rattle.vm_guest.specs.Room.{room_for};
 ghost use Rattle.vm_guest.specs.Start.{started};
 ghost use Rattle.vm_guest.specs.State.{state_epoch, with_guest, IsBacked};
 ghost use Rattle.vm_guest.specs.View.{view_of};
+ghost use Rattle.vm_guest.specs.Work.{work_ahead};
 
 use crate::config::GuestSpec;
 use crate::epoch::run;
@@ -19,6 +20,7 @@ use crate::release::release;
 use crate::room::GuestRoom;
 use crate::service::serve;
 use crate::view::{GuestView, view_of};
+use crate::work::work_ahead;
 use std::alloc::{AllocError, Global};
 use std::marker::Model;
 use vm_balloon::Stats;
@@ -102,12 +104,13 @@ impl Guest {
         Ok(())
     }
 
-    /// How many steps of its trace are in the guest's next epoch, if it doesn't stall and isn't blocked.
-    pub fn steps_ahead(&self) -> u32
-        ensures { result ≡ steps_ahead self.now.guest }
+    /// How much work the guest's next epoch is, in steps that find their pages in: an estimate by what can be seen before it, which
+    /// changes nothing but on how many threads an epoch is run.
+    pub fn work_ahead(&self) -> u64
+        ensures work { result ≡ work_ahead self.now.guest }
+        ensures few { result ≤ 8716544 }
     {
-        let left = self.parts.spec.trace.len() - self.parts.progress.position as usize;
-        left.min(self.parts.spec.quantum as usize) as u32
+        work_ahead(&self.parts)
     }
 
     /// Runs an epoch, unless the guest is blocked: its driver acts, it runs as many steps as its quantum says, idle ones after its

@@ -3,8 +3,8 @@
 //! A [`Host`] is made of a [`MachineSpec`] and of the [`Domains`] that it may run, as libvirt's `virsh` calls them. Time goes in
 //! epochs. [`Host::boundary`] comes before each: it serves the balloon devices (OASIS VIRTIO 1.2, section 5.5.6), obeys command
 //! [`Lines`], and divides the machine's frames among the guests by shares, idleness and demand (Waldspurger, "Memory Resource
-//! Management in VMware ESX Server", OSDI 2002). [`Host::epoch`] then lets each running guest run, on as many threads as the
-//! caller asks for. A boundary may follow another one, and an epoch needs one.
+//! Management in VMware ESX Server", OSDI 2002). [`Host::epoch`] then lets each running guest run, on at most as many threads as
+//! the caller asks for. A boundary may follow another one, and an epoch needs one.
 //!
 //! **Admission** (section 6.2). The books hold what the running guests were promised: to each its minimum of frames and its
 //! overhead, and swap for the rest of its memory. A command is admitted exactly where the machine covers its promises with it,

@@ -5,7 +5,7 @@ ghost use Rattle.vm_pool.specs.Changes.{IsServed};
 ghost use Rattle.vm_pool.specs.Guests.{number_of, total};
 ghost use Rattle.vm_pool.specs.Pool.{running_count};
 ghost use Rattle.vm_pool.specs.Slots.{guest_in, is_away, is_prepared, slot_run, unprepared, IsSettled};
-ghost use Rattle.vm_pool.specs.Work.{epoch_work, is_mostly_out};
+ghost use Rattle.vm_guest.specs.Work.{work_ahead};
 ghost use Rattle.vm_pool.specs.Turns.{back_in, left_slot, running_in, Arrives, MayRun};
 
 use crate::slot::{Slot, fill, guest_of};
@@ -14,7 +14,6 @@ use std::alloc::{AllocError, Global};
 use std::mem;
 use std::thread::Threads;
 use vm_board::{Gate, Jobs, run_round};
-use vm_guest::Guest;
 
 // The least work for which a thread is used, in steps that find their pages in: they take two to three times as long as its start.
 const WORK_OF_A_THREAD: u64 = 1000;
@@ -55,7 +54,7 @@ pub(crate) fn run_epochs<R: Threads + Sync, G: Gate + Sync>(
 fn threads_worth(workers: u32, slots: &[Slot]) -> u32
     requires workers { 0 < workers }
     requires few { length slots.now ≤ 256 }
-    ensures { result ≡ max 1 (min workers (total epoch_work (map guest_in slots.now) / 1000)) }
+    ensures { result ≡ max 1 (min workers (total work_ahead (map guest_in slots.now) / 1000)) }
 {
     if workers == 1 {
         return 1;
@@ -74,7 +73,7 @@ fn threads_for(work: u64, most: u32) -> u32
 // How much work the epochs of all guests are together.
 fn work_ahead(slots: &[Slot]) -> u64
     requires few { length slots.now ≤ 256 }
-    ensures { result ≡ total epoch_work (map guest_in slots.now) }
+    ensures { result ≡ total work_ahead (map guest_in slots.now) }
 {
     let mut work = 0;
     for slot in slots {
@@ -85,34 +84,13 @@ fn work_ahead(slots: &[Slot]) -> u64
 
 // How much work the epoch of a slot's guest is, if one runs there.
 fn work_in(slot: &Slot) -> u64
-    ensures work { result ≡ number_of epoch_work (guest_in slot.now) }
-    ensures few { result ≤ 34359738360 }
+    ensures work { result ≡ number_of work_ahead (guest_in slot.now) }
+    ensures few { result ≤ 8716544 }
 {
     match guest_of(slot) {
-        Some(guest) => work_of(guest),
+        Some(guest) => guest.work_ahead(),
         None => 0,
     }
-}
-
-// How much work the epoch of a guest is. What is shown of it is looked at only where a step is left.
-fn work_of(guest: &Guest) -> u64
-    ensures work { result ≡ epoch_work guest.now.guest }
-    ensures few { result ≤ 34359738360 }
-{
-    let steps = u64::from(guest.steps_ahead());
-    if steps > 0 && is_mostly_out(guest) {
-        8 * steps
-    } else {
-        steps
-    }
-}
-
-// Whether more pages of a guest are in its swap area than have a frame.
-fn is_mostly_out(guest: &Guest) -> bool
-    ensures { result ≡ is_mostly_out guest.now.guest }
-{
-    let view = guest.view();
-    view.resident < view.swapped
 }
 
 // Whether a guest runs in any of these slots.

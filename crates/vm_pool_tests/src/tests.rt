@@ -477,14 +477,22 @@ fn sets_min(rt: &impl Abort, pool: &mut Pool, position: usize, least: u32) -> bo
 }
 
 // Serves all guests and lets them run, and tells whether there was memory for it.
-fn runs(rt: &(impl AllocGlobal + Threads + Sync), pool: &mut Pool) -> bool {
+fn runs(
+    rt: &(impl AllocGlobal + Threads + Sync),
+    gate: &(impl Gate + Sync),
+    pool: &mut Pool,
+) -> bool {
     pool.serve_all();
-    pool.epoch(rt, rt.alloc(), &Open, 2).is_ok()
+    pool.epoch(rt, rt.alloc(), gate, 2).is_ok()
 }
 
 // Where an epoch of the first guest lacked memory, no step was done, and where a lower minimum did, the reserve is as before.
-fn check_refusals(rt: &(impl AllocGlobal + Abort + Threads + Sync), pool: &mut Pool) {
-    let ran = runs(rt, pool);
+fn check_refusals(
+    rt: &(impl AllocGlobal + Abort + Threads + Sync),
+    gate: &(impl Gate + Sync),
+    pool: &mut Pool,
+) {
+    let ran = runs(rt, gate, pool);
     check_eq(rt, done(pool, 0), Some(u32::from(ran)));
     set_min(rt, pool, 0, 5);
     let set = sets_min(rt, pool, 0, 2);
@@ -492,17 +500,30 @@ fn check_refusals(rt: &(impl AllocGlobal + Abort + Threads + Sync), pool: &mut P
 }
 
 // At each request for memory that fails in turn, the call that made it changes nothing. A raised minimum makes none.
-#[test]
-fn where_memory_is_refused_nothing_changes(rt: HostRuntime) -> Result<(), Fail> {
-    let mut pool = two_guests(&rt, 1)?;
-    let started = starts(&rt, &mut pool, 0);
+fn check_calls_refused(
+    rt: &(impl AllocGlobal + Abort + Threads + Sync),
+    gate: &(impl Gate + Sync),
+) -> Result<(), Fail> {
+    let mut pool = two_guests(rt, 1)?;
+    let started = starts(rt, &mut pool, 0);
     let free = if started { 15 } else { 20 };
-    check_eq(&rt, (pool.is_running(0), pool.free()), (started, free));
+    check_eq(rt, (pool.is_running(0), pool.free()), (started, free));
     if started {
-        check_refusals(&rt, &mut pool);
+        check_refusals(rt, gate, &mut pool);
     }
     pool.close();
     Ok(())
+}
+
+#[test]
+fn where_memory_is_refused_nothing_changes(rt: HostRuntime) -> Result<(), Fail> {
+    check_calls_refused(&rt, &Open)
+}
+
+// The same where the gate may wait, so that the round is one on threads.
+#[test]
+fn where_a_round_is_refused_memory_nothing_changes(rt: HostRuntime) -> Result<(), Fail> {
+    check_calls_refused(&rt, &no_passages())
 }
 
 // A trace of so many writes to the pages of a guest that has eight, one after the other.

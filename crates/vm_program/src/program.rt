@@ -89,8 +89,8 @@ pub fn status<RT: Threads + Sync, R: Source, W: Sink>(
 
 /// Runs the guests that a configuration on standard input names, and writes the report to standard output.
 ///
-/// The words are those of `vmmem [--workers N]`: on how many threads the guests run, 1 to 64, and 1 where that isn't said. They
-/// are read before the input. The exit code is that of [`status`].
+/// The words are those of `vmmem [--workers N]`: on how many threads the guests run at most, 1 to 64, and 1 where that isn't said.
+/// They are read before the input. The exit code is that of [`status`].
 pub fn vmmem(rt: &(impl Env + Input + Print + Eprint + AllocGlobal + Threads + Sync)) -> ExitCode
     ensures known { exit_status result ≤ 3 }
 {

@@ -114,8 +114,8 @@ pub fn status<RT: Threads + Sync, R: Source, W: Sink>(
 /// Runs the guests that a configuration on standard input names, and writes what is seen of the host after each epoch to standard
 /// output, as comma-separated values (RFC 4180) or as a drawing (SVG).
 ///
-/// The words are those of `vmseries [--svg] [--workers N]`: whether a drawing is wanted, and on how many threads the guests run, 1 to
-/// 64, and 1 where that isn't said. They are read before the input. The exit code is that of [`status`].
+/// The words are those of `vmseries [--svg] [--workers N]`: whether a drawing is wanted, and on how many threads the guests run at
+/// most, 1 to 64, and 1 where that isn't said. They are read before the input. The exit code is that of [`status`].
 pub fn vmseries(rt: &(impl Env + Input + Print + Eprint + AllocGlobal + Threads + Sync)) -> ExitCode
     ensures known { exit_status result ≤ 3 }
 {

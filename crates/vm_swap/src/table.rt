@@ -20,7 +20,7 @@ struct Slot<V> {
     value: V,
 }
 
-// A value for each of some pages, found by one read of the index. Only `new` and `reserve` take memory.
+// A value for each of some pages, found by one read of the index. Only `new`, `reserve` and `reserve_moving` take memory.
 #[derive(Drop)]
 pub(crate) struct Table<V> {
     // In no order.
@@ -75,15 +75,16 @@ impl<V: Drop> Table<V> {
         self.slots.reserve_exact(more)
     }
 
-    // As `reserve`, for small values. Where few of them are there they move to new memory, since what is grown in place may be
-    // copied whole, with all of the room that was never used.
+    // As `reserve`, for small values. Where few of them are there, beside what the room grows by, they move to new memory, since what
+    // is grown in place may be copied whole, with all of the room that was never used. So all that a table ever copies here is an
+    // eighth of its room.
     pub(crate) fn reserve_moving(&mut self, room: usize) -> Result<(), AllocError>
         ensures values { self.new.values ≡ self.old.values }
         ensures room { OnOk result (room ≤ self.new.room) }
         ensures kept { self.old.room ≤ self.new.room }
         ensures refused { OnErr result (self.old.room < room) }
     {
-        if self.slots.len() <= self.slots.capacity() / 8 {
+        if self.slots.len() <= room.saturating_sub(self.slots.capacity()) / 8 {
             self.move_to(room)
         } else {
             self.reserve(room)

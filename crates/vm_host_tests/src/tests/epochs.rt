@@ -128,16 +128,36 @@ fn assert_met(rt: &impl Abort, gate: &Meeting) {
     check_eq(rt, met, [1, 1]);
 }
 
-// At each request for memory that fails in turn: a boundary that lacked it leaves a host that can be read and closed, and an epoch that
-// lacked it may be asked for again.
+// A gate that does nothing, and does not say that it never waits: so an epoch on two workers is a round on threads.
+struct Silent;
+
+impl Gate for Silent {
+    fn enter(&self, _number: u32) {}
+
+    fn leave(&self, _number: u32) {}
+}
+
 #[test]
 fn where_memory_is_refused_frames_add_up(rt: HostRuntime) -> Result<(), Fail> {
-    let rt = &rt;
+    check_refusals(&rt, &Open)
+}
+
+#[test]
+fn where_a_round_is_refused_memory_frames_add_up(rt: HostRuntime) -> Result<(), Fail> {
+    check_refusals(&rt, &Silent)
+}
+
+// At each request for memory that fails in turn: a boundary that lacked it leaves a host that can be read and closed, and an epoch that
+// lacked it may be asked for again.
+fn check_refusals(
+    rt: &(impl AllocGlobal + Abort + Threads + Sync),
+    gate: &(impl Gate + Sync),
+) -> Result<(), Fail> {
     let mut lines = Lines::new(rt.alloc());
     lines.push("start a")?;
     let steps = ["w 0 0 0a"];
     let mut lone = LoneHost::of_guests(rt, machine(16, 4), &[("a", guest(8, 4))], &steps)?;
-    assert_goes_on(rt, &mut lone, &lines);
+    assert_goes_on(rt, gate, &mut lone, &lines);
     assert_adds_up(rt, lone.host());
     lone.close();
     Ok(())
@@ -146,19 +166,21 @@ fn where_memory_is_refused_frames_add_up(rt: HostRuntime) -> Result<(), Fail> {
 // Asserts how a host goes on, be its boundary refused memory, its epoch, or neither.
 fn assert_goes_on(
     rt: &(impl AllocGlobal + Abort + Threads + Sync),
+    gate: &(impl Gate + Sync),
     lone: &mut LoneHost,
     lines: &Lines,
 ) {
     if let Some(error) = lone.try_boundary(rt, lines).err() {
-        assert_failed(rt, lone, lines, error);
-    } else if lone.try_epoch(rt, &Open, 2).is_err() {
-        assert_asked_again(rt, lone);
+        assert_failed(rt, gate, lone, lines, error);
+    } else if lone.try_epoch(rt, gate, 2).is_err() {
+        assert_asked_again(rt, gate, lone);
     }
 }
 
 // Asserts that a boundary lacked memory, and that the host has failed since.
 fn assert_failed(
     rt: &(impl AllocGlobal + Abort + Threads + Sync),
+    gate: &(impl Gate + Sync),
     lone: &mut LoneHost,
     lines: &Lines,
     error: HostError,
@@ -167,14 +189,18 @@ fn assert_failed(
     assert_first_byte(rt, lone.host(), "a", 0, None);
     let again = lone.try_boundary(rt, lines).err();
     check_eq(rt, again, Some(HostError::Failed));
-    let again = lone.try_epoch(rt, &Open, 2).err();
+    let again = lone.try_epoch(rt, gate, 2).err();
     check_eq(rt, again, Some(HostError::Failed));
 }
 
 // Asserts that an epoch changed nothing, and that the guest takes its step when it is asked for again.
-fn assert_asked_again(rt: &(impl AllocGlobal + Abort + Threads + Sync), lone: &mut LoneHost) {
+fn assert_asked_again(
+    rt: &(impl AllocGlobal + Abort + Threads + Sync),
+    gate: &(impl Gate + Sync),
+    lone: &mut LoneHost,
+) {
     assert_steps_done(rt, lone.host(), 0, 0);
-    let again = lone.try_epoch(rt, &Open, 2).err();
+    let again = lone.try_epoch(rt, gate, 2).err();
     check_eq(rt, again, None);
     assert_steps_done(rt, lone.host(), 0, 1);
 }
