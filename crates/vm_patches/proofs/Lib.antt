@@ -3,3 +3,5 @@ mod Zeros
 mod Contents
 mod LastBytes
 mod Masks
+mod Runs
+mod Laying

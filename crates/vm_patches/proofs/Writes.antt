@@ -1,11 +1,11 @@
 -- What writes make of a page.
-use Rattle.std.proofs.Common.{◌≡◌, ℕ, suc, ◌+◌, ◌-◌, ◌<◌, ◌≤◌, List, [], ◌∷◌, ◌++◌, length, take, drop, set, get_or, slice_range, refl, ap, ◌∙◌, arith}
+use Rattle.std.proofs.Common.{◌≡◌, ℕ, suc, ◌+◌, ◌-◌, ◌<◌, ◌≤◌, List, [], ◌∷◌, ◌++◌, length, take, drop, set, get_or, slice_range, refl, sym, ap, ◌∙◌, arith}
 use Rattle.std.proofs.lemmas.List.{length-set, length-take-le, drop-set-add, drop-set-lt, take-set-le}
 use Rattle.std.proofs.lemmas.List.Elements.{All-cons}
 use Rattle.std.proofs.lemmas.List.Edits.{sets, sets-eq}
 use Rattle.std.proofs.Math.Seq.{take-suc, take-set-lt}
 use Rattle.vm_patches.specs.declared.patch.ByteWrite.{ByteWrite}
-use Rattle.vm_patches.specs.Patches.{AreWithin, patched, writes_of}
+use Rattle.vm_patches.specs.Patches.{overwritten, patched, writes_of, AreWithin}
 
 pub patched-append : (page : List ℕ) (first more : List ByteWrite) → patched page (first ++ more) ≡ patched (patched page first) more
 patched-append page [] more = refl
@@ -41,6 +41,10 @@ patched-sets page offset (byte ∷ bytes) =
 
 pub patched-writes_of : (page : List ℕ) (offset : ℕ) (bytes : List ℕ) → offset + length bytes ≤ length page → patched page (writes_of offset bytes) ≡ take offset page ++ bytes ++ drop (offset + length bytes) page
 patched-writes_of page offset bytes within = patched-sets page offset bytes ∙ sets-eq bytes page offset within
+
+-- one byte
+pub overwritten-one : (page : List ℕ) (at byte : ℕ) → at < length page → overwritten page at (byte ∷ []) ≡ set page at byte
+overwritten-one page at byte below = sym (patched-writes_of page at (byte ∷ []) (omega (arith, below)))
 
 pub writes_of-next : (offset : ℕ) (bytes : List ℕ) (i n : ℕ) (d : ℕ) → n ≡ i + 1 → i < length bytes
     → writes_of offset (take n bytes) ≡ writes_of offset (take i bytes) ++ record { offset = offset + i; byte = get_or bytes i d } ∷ []

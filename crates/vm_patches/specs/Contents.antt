@@ -12,19 +12,19 @@ contents_of (Few writes) bytes = patched zero_bytes writes
 contents_of (Lines lines) bytes = masked lines bytes
 contents_of Whole bytes = bytes
 
--- there is a patch, and it has these bytes too
+-- there is a log, and it has these bytes too
 abbrev pub IsWritten : Contents → Contents → ℕ → List ℕ → Type 0
 IsWritten (Few writes) new offset bytes = new ≡ Few (writes ++ writes_of offset bytes)
 IsWritten (Lines lines) new offset bytes = ⊥
 IsWritten Whole new offset bytes = ⊥
 
--- the patch, where there is one
-abbrev pub patch_of : Contents → Option (List ByteWrite)
-patch_of (Few writes) = Some writes
-patch_of (Lines lines) = None
-patch_of Whole = None
+-- the log, where there is one
+abbrev pub log_of : Contents → Option (List ByteWrite)
+log_of (Few writes) = Some writes
+log_of (Lines lines) = None
+log_of Whole = None
 
--- a patch that changes nothing, where there is one
+-- a log that changes nothing, where there is one
 abbrev pub blank_where_few : Contents → Contents
 blank_where_few (Few writes) = Few []
 blank_where_few (Lines lines) = Lines lines

@@ -1,4 +1,5 @@
 pub mod Patches
+pub mod Runs
 pub mod Lines
 pub mod Contents
 pub mod LastByte

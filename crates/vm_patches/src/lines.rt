@@ -1,9 +1,10 @@
 // The lines of a page: which of them were written, a bit for each.
-ghost use Rattle.std.specs.Prelude.{◌≡◌, ◌≢◌, ℕ, ◌+◌, ◌*◌, ◌/◌, ◌<◌, ◌≤◌, ◌==◌, true, if◌then◌else◌, length, slice_index, slice_range, slice_set};
-ghost use Rattle.vm_patches.specs.Patches.{overwritten, patched, AreWithin};
+ghost use Rattle.std.specs.Prelude.{◌≡◌, ◌≢◌, ℕ, ◌+◌, ◌*◌, ◌/◌, ◌<◌, ◌≤◌, ◌==◌, true, if◌then◌else◌, All, length, slice_index, slice_range};
+ghost use Rattle.vm_patches.specs.Patches.{overwritten, patched};
+ghost use Rattle.vm_patches.specs.Runs.{total, writes_in, IsWithinPage};
 ghost use Rattle.vm_patches.specs.Lines.{is_marked, masked, no_lines};
 
-use crate::patch::ByteWrite;
+use crate::log::{Log, Run};
 use vm_frames::PAGE_BYTES;
 
 // How many bytes a line has, so that a word has a bit for each line of a page.
@@ -96,24 +97,26 @@ pub(crate) fn write_lines(
     page[offset..end].copy_from_slice(bytes);
 }
 
-// Brings writes to the page.
-pub(crate) fn write_each(lines: &mut LineSet, page: &mut [u8; PAGE_BYTES], writes: &[ByteWrite])
-    requires { AreWithin writes.now }
-    ensures { masked lines.new page.new ≡ patched (masked lines.old page.old) writes.now }
+// Brings the writes of a log to the page.
+pub(crate) fn write_each(lines: &mut LineSet, page: &mut [u8; PAGE_BYTES], log: &Log)
+    ensures { masked lines.new page.new ≡ patched (masked lines.old page.old) log.now }
 {
-    for &write in writes {
-        write_one(lines, page, write);
-    }
+    let (runs, written) = log.parts();
+    write_runs(lines, page, runs, written);
 }
 
-// Brings a write to the page.
-fn write_one(lines: &mut LineSet, page: &mut [u8; PAGE_BYTES], write: ByteWrite)
-    requires { write.offset < PAGE_BYTES }
-    ensures { masked lines.new page.new ≡ slice_set (masked lines.old page.old) write.offset write.byte }
+// Brings stretches, whose bytes stand one after the other, to the page.
+fn write_runs(lines: &mut LineSet, page: &mut [u8; PAGE_BYTES], runs: &[Run], written: &[u8])
+    requires within { All IsWithinPage runs.now }
+    requires counted { total runs.now ≤ length written.now }
+    ensures { masked lines.new page.new ≡ patched (masked lines.old page.old) (writes_in runs.now written.now) }
 {
-    let at = usize::from(write.offset);
-    open_line(lines, page, at / LINE_BYTES);
-    page[at] = write.byte;
+    let mut at = 0;
+    for &run in runs {
+        let end = at + run.len();
+        write_lines(lines, page, run.offset(), &written[at..end]);
+        at = end;
+    }
 }
 
 // Takes lines from `first` on and below `end` into the set.

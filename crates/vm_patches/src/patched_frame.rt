@@ -1,24 +1,23 @@
-ghost use Rattle.std.specs.Prelude.{◌≡◌, ◌+◌, ◌≤◌, IfSome, IfNone, length, slice_range};
+ghost use Rattle.std.specs.Prelude.{◌≡◌, ◌+◌, ◌≤◌, [], IfSome, IfNone, length, slice_range};
 ghost use Rattle.std.specs.Bool.{OnTrue, OnFalse};
-ghost use Rattle.vm_patches.specs.Patches.{overwritten, patched, zero_bytes};
-ghost use Rattle.vm_patches.specs.Contents.{blank_where_few, contents_of, patch_of, IsWritten};
-ghost use Rattle.vm_patches.specs.declared.patched_frame.Contents.TheVariants.{Whole};
+ghost use Rattle.vm_patches.specs.Patches.{overwritten, patched, zero_bytes, AreWithin};
+ghost use Rattle.vm_patches.specs.Contents.{blank_where_few, contents_of, log_of, IsWritten};
+ghost use Rattle.vm_patches.specs.declared.patched_frame.Contents.TheVariants.{Few, Whole};
 
 use crate::lines::{LineSet, blank_others, read_lines, write_each, write_lines};
-use crate::patch::Patch;
+use crate::log::Log;
+use crate::patch::{ByteWrite, Patch};
 use std::marker::Model;
 use std::mem::{replace, swap};
 use vm_frames::{Frame, PAGE_BYTES};
 
-const ZEROS: [u8; PAGE_BYTES] = [0; PAGE_BYTES];
-
 // Where the bytes of a page are.
 #[derive(Drop)]
 enum Contents {
-    // In a patch of a page of zeros. Nothing is said by the frame's bytes.
-    Few(Patch),
+    // In a log of a page of zeros. Nothing is said by the frame's bytes.
+    Few(Log),
     // In those lines of the frame, and all others are zeros, whatever the frame has there: so a frame need not be cleared when a page
-    // outgrows its patch.
+    // outgrows its log.
     Lines(LineSet),
     // In the frame.
     Whole,
@@ -49,7 +48,7 @@ impl PatchedFrame {
         ensures { result ≡ frame }
     {
         if frame.is_blank() {
-            let contents = Contents::Few(Patch::new());
+            let contents = Contents::Few(Log::new());
             PatchedFrame { frame, contents }
         } else {
             PatchedFrame {
@@ -77,20 +76,37 @@ impl PatchedFrame {
         }
     }
 
-    /// Takes the page's bytes, where they are kept as a patch, and leaves a page of zeros.
+    /// Takes the page's bytes, where they are kept as a log, and leaves a page of zeros.
+    pub fn take_log(&mut self) -> Option<Log>
+        ensures some { IfSome result (λ log. self.old.bytes ≡ patched zero_bytes log) }
+        ensures taken { IfSome result (λ log. self.new ≡ record self.old { bytes = zero_bytes }) }
+        ensures none { IfNone result (self.new ≡ self.old) }
+    {
+        take_few(&mut self.contents)
+    }
+
+    /// Makes it a page of zeros that has the writes of the log. The frame's memory is not touched.
+    pub fn set_log(&mut self, log: Log)
+        ensures { self.new ≡ record self.old { bytes = patched zero_bytes log } }
+    {
+        self.contents = Contents::Few(log);
+    }
+
+    /// Takes the page's bytes, where they are kept as a log that a patch has room for, and leaves a page of zeros.
     pub fn take_patch(&mut self) -> Option<Patch>
         ensures some { IfSome result (λ patch. self.old.bytes ≡ patched zero_bytes patch) }
         ensures taken { IfSome result (λ patch. self.new ≡ record self.old { bytes = zero_bytes }) }
         ensures none { IfNone result (self.new ≡ self.old) }
     {
-        take_few(&mut self.contents)
+        take_patch(&mut self.contents)
     }
 
     /// Makes it a page of zeros that has the writes of the patch. The frame's memory is not touched.
     pub fn set_patch(&mut self, patch: Patch)
         ensures { self.new ≡ record self.old { bytes = patched zero_bytes patch } }
     {
-        self.contents = Contents::Few(patch);
+        self.contents = Contents::Few(Log::new());
+        write_all(self, patch.writes());
     }
 
     /// Makes them the page's bytes.
@@ -137,7 +153,7 @@ fn read_contents(contents: &Contents, frame: &Frame, offset: usize, bytes: &mut 
     ensures { bytes.new ≡ slice_range (contents_of contents.now frame.now.bytes) offset (offset + length bytes.old) }
 {
     match contents {
-        Contents::Few(few) => few.read(&ZEROS, offset, bytes),
+        Contents::Few(few) => few.read(offset, bytes),
         Contents::Lines(lines) => read_lines(lines, frame.bytes(), offset, bytes),
         Contents::Whole => bytes.copy_from_slice(&frame.bytes()[offset..offset + bytes.len()]),
     }
@@ -150,12 +166,10 @@ fn write_few(contents: &mut Contents, offset: usize, bytes: &[u8]) -> bool
     ensures unchanged { OnFalse result (contents.new ≡ contents.old) }
 {
     if let Contents::Few(few) = contents {
-        if few.has_room(bytes.len()) {
-            few.write(offset, bytes);
-            return true;
-        }
+        few.write(offset, bytes)
+    } else {
+        false
     }
-    false
 }
 
 // Writes bytes to the frame. Those of a patch go there too.
@@ -166,7 +180,7 @@ fn write_frame(contents: &mut Contents, page: &mut [u8; PAGE_BYTES], offset: usi
     match contents {
         Contents::Few(few) => {
             let mut lines = LineSet::new();
-            write_each(&mut lines, page, few.writes());
+            write_each(&mut lines, page, few);
             write_lines(&mut lines, page, offset, bytes);
             *contents = Contents::Lines(lines);
         }
@@ -175,14 +189,41 @@ fn write_frame(contents: &mut Contents, page: &mut [u8; PAGE_BYTES], offset: usi
     }
 }
 
-// Takes the patch, if there is one, and leaves one that changes nothing.
-fn take_few(contents: &mut Contents) -> Option<Patch>
-    ensures taken { result ≡ patch_of contents.old }
+// Takes the log, if there is one, and leaves one that changes nothing.
+fn take_few(contents: &mut Contents) -> Option<Log>
+    ensures taken { result ≡ log_of contents.old }
     ensures left { contents.new ≡ blank_where_few contents.old }
 {
     match contents {
-        Contents::Few(few) => Some(replace(few, Patch::new())),
+        Contents::Few(few) => Some(replace(few, Log::new())),
         Contents::Lines(_) | Contents::Whole => None,
+    }
+}
+
+// Takes the log, if there is one that a patch has room for, and leaves one that changes nothing.
+fn take_patch(contents: &mut Contents) -> Option<Patch>
+    ensures taken { IfSome result (λ patch. contents.old ≡ Few patch) }
+    ensures left { IfSome result (λ patch. contents.new ≡ Few []) }
+    ensures none { IfNone result (contents.new ≡ contents.old) }
+{
+    match contents {
+        Contents::Few(few) => {
+            let patch = few.to_patch()?;
+            *few = Log::new();
+            Some(patch)
+        }
+        Contents::Lines(_) | Contents::Whole => None,
+    }
+}
+
+// Brings writes to a page of zeros, of which the first comes first.
+fn write_all(page: &mut PatchedFrame, writes: &[ByteWrite])
+    requires blank { page.old.bytes ≡ zero_bytes }
+    requires within { AreWithin writes.now }
+    ensures { page.new ≡ record page.old { bytes = patched zero_bytes writes.now } }
+{
+    for &write in writes {
+        page.write(usize::from(write.offset), &[write.byte]);
     }
 }
 
@@ -193,8 +234,9 @@ fn settle(contents: &mut Contents, frame: &mut Frame)
 {
     match contents {
         Contents::Few(few) => {
-            frame.zero();
-            few.apply(frame.bytes_mut());
+            let mut lines = LineSet::new();
+            write_each(&mut lines, frame.bytes_mut(), few);
+            blank_others(&lines, frame.bytes_mut());
         }
         Contents::Lines(lines) => blank_others(lines, frame.bytes_mut()),
         Contents::Whole => {}

@@ -9,7 +9,7 @@ use crate::table::{PAGE_BYTES, PAGE_LIMIT, Table, trade_bytes};
 use std::alloc::{AllocError, Global};
 use std::marker::Model;
 use vm_frames::Frame;
-use vm_patches::{Patch, PatchedFrame};
+use vm_patches::{Log, PatchedFrame};
 
 const ZEROS: [u8; PAGE_BYTES] = [0; PAGE_BYTES];
 
@@ -20,7 +20,7 @@ const ZEROS: [u8; PAGE_BYTES] = [0; PAGE_BYTES];
 ///
 /// All room is reserved when the area is made or grows, at most for the [`PAGE_LIMIT`] pages that a guest can
 /// have, so no other call takes memory. A slot is written first when a page needs it: a system that gives out
-/// memory on first use gives none for slots that were never needed. A page that goes out of its frame as a patch stays a patch
+/// memory on first use gives none for slots that were never needed. A page that goes out of its frame as a log stays a log
 /// until it comes in, so that `save`, `load` and `trade` touch no page of memory for it.
 #[derive(Drop)]
 pub struct SwapArea {
@@ -28,7 +28,7 @@ pub struct SwapArea {
     // The pages that are out, each in one of the two: with all its bytes, or as what was written to a page of zeros. Each of the
     // two has room for all of them, since nobody knows how many will be of few bytes.
     whole: Table<[u8; PAGE_BYTES]>,
-    few: Table<Patch>,
+    few: Table<Log>,
 }
 
 impl Model for SwapArea {
@@ -113,9 +113,9 @@ impl SwapArea {
         ensures area { self.new ≡ record self.old { pages = map.insert self.old.pages page frame.bytes } }
         ensures frame { result.number ≡ frame.number }
     {
-        match frame.take_patch() {
-            Some(patch) => {
-                self.put_few(page, patch);
+        match frame.take_log() {
+            Some(log) => {
+                self.put_few(page, log);
                 frame.release()
             }
             None => {
@@ -142,8 +142,8 @@ impl SwapArea {
         ensures area { self.new ≡ record self.old { pages = map.insert (map.remove self.old.pages page) other frame.old.bytes } }
         ensures frame { frame.new ≡ record frame.old { bytes = unwrap_or (map.get self.old.pages page) zero_bytes } }
     {
-        match frame.take_patch() {
-            Some(patch) => self.trade_few(page, other, patch, frame),
+        match frame.take_log() {
+            Some(log) => self.trade_few(page, other, log, frame),
             None => self.trade_whole(page, other, frame),
         }
     }
@@ -166,7 +166,7 @@ impl SwapArea {
         ensures zeroed { OnTrue result (self.new ≡ record self.old { pages = map.insert self.old.pages page zero_bytes }) }
         ensures absent { OnFalse result (self.new ≡ self.old) }
     {
-        if self.few.set(page, Patch::new()) {
+        if self.few.set(page, Log::new()) {
             true
         } else {
             zero_whole(&mut self.whole, page)
@@ -195,52 +195,52 @@ impl SwapArea {
     }
 
     // Swaps out a page as what was written to zeros.
-    fn put_few(&mut self, page: u32, patch: Patch)
+    fn put_few(&mut self, page: u32, log: Log)
         requires in_range { page < PAGE_LIMIT }
         requires absent { map.get self.old.pages page ≡ None }
         requires room { map.len self.old.pages < self.old.capacity }
-        ensures { self.new ≡ record self.old { pages = map.insert self.old.pages page (patched zero_bytes patch) } }
+        ensures { self.new ≡ record self.old { pages = map.insert self.old.pages page (patched zero_bytes log) } }
     {
-        self.few.insert(page, patch);
+        self.few.insert(page, log);
     }
 
     // The trade, where the page that goes out does so as what was written to zeros.
-    fn trade_few(&mut self, page: u32, other: u32, patch: Patch, frame: &mut PatchedFrame)
+    fn trade_few(&mut self, page: u32, other: u32, log: Log, frame: &mut PatchedFrame)
         requires in_range { other < PAGE_LIMIT }
         requires absent { map.get self.old.pages other ≡ None }
         requires room { map.len (map.remove self.old.pages page) < self.old.capacity }
-        ensures area { self.new ≡ record self.old { pages = map.insert (map.remove self.old.pages page) other (patched zero_bytes patch) } }
+        ensures area { self.new ≡ record self.old { pages = map.insert (map.remove self.old.pages page) other (patched zero_bytes log) } }
         ensures frame { frame.new ≡ record frame.old { bytes = unwrap_or (map.get self.old.pages page) zero_bytes } }
     {
-        if let Some(patch) = self.trade_patches(page, other, patch, frame) {
+        if let Some(log) = self.trade_logs(page, other, log, frame) {
             self.load(page, frame);
-            self.put_few(other, patch);
+            self.put_few(other, log);
         }
     }
 
     // The trade, where the page that comes in is kept as what was written to zeros too: then it gives its slot to the other. Else nothing
-    // changes, and the patch comes back.
-    fn trade_patches(
+    // changes, and the log comes back.
+    fn trade_logs(
         &mut self,
         page: u32,
         other: u32,
-        patch: Patch,
+        log: Log,
         frame: &mut PatchedFrame,
-    ) -> Option<Patch>
+    ) -> Option<Log>
         requires in_range { other < PAGE_LIMIT }
         requires absent { map.get self.old.pages other ≡ None }
-        ensures area { IfNone result (self.new ≡ record self.old { pages = map.insert (map.remove self.old.pages page) other (patched zero_bytes patch) }) }
+        ensures area { IfNone result (self.new ≡ record self.old { pages = map.insert (map.remove self.old.pages page) other (patched zero_bytes log) }) }
         ensures frame { IfNone result (frame.new ≡ record frame.old { bytes = unwrap_or (map.get self.old.pages page) zero_bytes }) }
-        ensures back { IfSome result (λ back. back ≡ patch) }
+        ensures back { IfSome result (λ back. back ≡ log) }
         ensures same { IfSome result (λ back. self.new ≡ self.old) }
         ensures same_frame { IfSome result (λ back. frame.new ≡ frame.old) }
     {
-        match self.few.hand_over(page, other, patch) {
-            Ok(patch) => {
-                frame.set_patch(patch);
+        match self.few.hand_over(page, other, log) {
+            Ok(log) => {
+                frame.set_log(log);
                 None
             }
-            Err(patch) => Some(patch),
+            Err(log) => Some(log),
         }
     }
 
@@ -288,7 +288,7 @@ fn usable(capacity: u32) -> usize
 // Moves a page into a frame, which becomes one of zeros where the page is in neither.
 fn bring_in(
     whole: &mut Table<[u8; PAGE_BYTES]>,
-    few: &mut Table<Patch>,
+    few: &mut Table<Log>,
     page: u32,
     frame: &mut PatchedFrame,
 )
@@ -296,10 +296,10 @@ fn bring_in(
     ensures few { few.new ≡ record few.old { values = map.remove few.old.values page } }
     ensures frame { frame.new ≡ record frame.old { bytes = unwrap_or (map.get (merged whole.old.values few.old.values) page) zero_bytes } }
 {
-    let patch = few.remove(page);
+    let log = few.remove(page);
     match whole.get(page) {
         Some(bytes) => frame.set_bytes(bytes),
-        None => frame.set_patch(patch.unwrap_or(Patch::new())),
+        None => frame.set_log(log.unwrap_or(Log::new())),
     }
     whole.discard(page);
 }
@@ -317,7 +317,7 @@ fn zero_whole(whole: &mut Table<[u8; PAGE_BYTES]>, page: u32) -> bool
 // Copies the bytes of a page, and answers whether it is in one of the two.
 fn read_page(
     whole: &Table<[u8; PAGE_BYTES]>,
-    few: &Table<Patch>,
+    few: &Table<Log>,
     page: u32,
     buffer: &mut [u8],
 ) -> bool
@@ -328,7 +328,7 @@ fn read_page(
 {
     match (whole.get(page), few.get(page)) {
         (Some(bytes), _) => buffer.copy_from_slice(bytes),
-        (None, Some(patch)) => patch.read(&ZEROS, 0, buffer),
+        (None, Some(log)) => log.read(0, buffer),
         (None, None) => return false,
     }
     true

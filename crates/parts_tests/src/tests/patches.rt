@@ -5,7 +5,7 @@ use super::check_eq;
 use super::frames::close_machine;
 use std::process::Abort;
 use vm_frames::{Machine, PAGE_BYTES};
-use vm_patches::{Patch, PatchedFrame};
+use vm_patches::{Log, Patch, PatchedFrame};
 
 // Five bytes of a page.
 fn check_five(rt: &impl Abort, page: &PatchedFrame, offset: usize, wanted: [u8; 5])
@@ -127,6 +127,81 @@ fn a_frame_shows_the_lines_that_were_written(rt: HostRuntime) {
         [0, 1, 2, 0],
     );
     check_five(&rt, &page, 62, [7, 7, 7, 7, 7]);
+    machine.give(page.release());
+    close_machine(&rt, machine, 1);
+}
+
+// A stretch of a log, and whether it has room.
+fn check_write(rt: &impl Abort, log: &mut Log, offset: usize, bytes: &[u8], room: bool)
+    requires { offset + length bytes.now ≤ PAGE_BYTES }
+{
+    check_eq(rt, log.write(offset, bytes), room);
+}
+
+#[test]
+fn a_log_has_twenty_stretches(rt: HostRuntime) {
+    let mut log = Log::new();
+    for place in 0..20 {
+        check_write(&rt, &mut log, 2 * place, &[1, 2], true);
+    }
+    check_write(&rt, &mut log, 100, &[], true);
+    check_write(&rt, &mut log, 0, &[3], false);
+    let mut bytes = [9; 4];
+    log.read(38, &mut bytes);
+    check_eq(&rt, bytes, [1, 2, 0, 0]);
+}
+
+#[test]
+fn a_log_has_seventy_six_bytes(rt: HostRuntime) {
+    let mut log = Log::new();
+    check_write(&rt, &mut log, 0, &[8; 17], false);
+    for place in 0..4 {
+        check_write(&rt, &mut log, 4080 - 8 * place, &[4; 16], true);
+    }
+    check_write(&rt, &mut log, 4090, &[5; 6], true);
+    check_write(&rt, &mut log, 4088, &[6; 7], false);
+    check_write(&rt, &mut log, 4088, &[6; 6], true);
+    check_write(&rt, &mut log, 0, &[7], false);
+    let mut bytes = [9; 4];
+    log.read(4092, &mut bytes);
+    check_eq(&rt, bytes, [6, 6, 5, 5]);
+    log.read(4054, &mut bytes);
+    check_eq(&rt, bytes, [0, 0, 4, 4]);
+    log.read(0, &mut bytes);
+    check_eq(&rt, bytes, [0, 0, 0, 0]);
+}
+
+// Stretches that cover each other in part, until one more than the page's log has room for.
+fn outgrow_log(rt: &impl Abort, page: &mut PatchedFrame)
+    ensures { page.new.number ≡ page.old.number }
+{
+    let mut wanted = [0; PAGE_BYTES];
+    write_both(page, &mut wanted, 60, &[1; 16]);
+    write_both(page, &mut wanted, 50, &[2; 16]);
+    write_both(page, &mut wanted, 70, &[3; 16]);
+    write_both(page, &mut wanted, 4080, &[4; 16]);
+    write_both(page, &mut wanted, 64, &[5; 12]);
+    check_page(rt, page, &wanted);
+    write_both(page, &mut wanted, 63, &[6]);
+    check_page(rt, page, &wanted);
+}
+
+#[test]
+#[tactic(auto, using(vm_frames::proofs::NumberSets::set_members))]
+fn a_page_outgrows_its_log(rt: HostRuntime) {
+    let mut machine = Machine::new(rt.alloc(), 1).expect(&rt, "memory");
+    let mut page = PatchedFrame::new(machine.take().expect(&rt, "a free frame"));
+    outgrow_log(&rt, &mut page);
+    check_eq(&rt, page.take_log().is_none(), true);
+    // What has room in a log is taken as one, and as a patch only where it has room there.
+    page.set_log(Log::new());
+    page.write(5, &[1; 13]);
+    check_eq(&rt, page.take_patch().is_none(), true);
+    check_eq(&rt, page.take_log().is_some(), true);
+    check_five(&rt, &page, 4, [0, 0, 0, 0, 0]);
+    page.write(5, &[1; 12]);
+    check_eq(&rt, page.take_patch().is_some(), true);
+    check_five(&rt, &page, 4, [0, 0, 0, 0, 0]);
     machine.give(page.release());
     close_machine(&rt, machine, 1);
 }

@@ -1,5 +1,4 @@
-use Rattle.vm_patches.proofs.Zeros.{zero_bytes-is}
 use Rattle.vm_patches.proofs.patched_frame.read_contents.Goals as goal
 
 pub returns-in-Few : goal.returns-in-Few
-returns-in-Few c = rw (c.in-Few.is, ← zero_bytes-is) c.read.ensures
+returns-in-Few c = rw c.in-Few.is c.read.ensures

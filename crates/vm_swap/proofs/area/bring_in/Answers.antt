@@ -19,7 +19,7 @@ returns-clause-frame c =
       | in-Some w ↦ w.frame-is ∙ w.set_bytes.ensures
           ∙ (λ i. record { number = c.args.frame.now.number; bytes = unwrap_or (first_of (w.in-Some.ensures i) (bytes_of few)) zero_bytes })
       | in-None w ↦
-          let bytes = ap (λ o. patched zero_bytes (unwrap_or o [])) c.remove-patch.ensures.taken ∙ or_zeros few in
+          let bytes = ap (λ o. patched zero_bytes (unwrap_or o [])) c.remove-log.ensures.taken ∙ or_zeros few in
           let none = ap (λ o. unwrap_or (first_of o (bytes_of few)) zero_bytes) w.in-None.ensures in
-          w.frame-is ∙ w.set_patch.ensures ∙ rw (w.unwrap_or.ensures, w.new.ensures) (λ i. record { number = c.args.frame.now.number; bytes = (bytes ∙ none) i })
+          w.frame-is ∙ w.set_log.ensures ∙ rw (w.unwrap_or.ensures, w.new.ensures) (λ i. record { number = c.args.frame.now.number; bytes = (bytes ∙ none) i })
     ])

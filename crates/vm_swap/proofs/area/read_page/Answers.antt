@@ -1,4 +1,4 @@
-use Rattle.std.proofs.Common.{◌≡◌, ℕ, ◌+◌, ◌-◌, List, length, replicate, slice_range, option_copied, refl, sym, ap, ◌∙◌, arith}
+use Rattle.std.proofs.Common.{◌≡◌, ℕ, ◌+◌, ◌-◌, List, length, slice_range, option_copied, refl, sym, ap, ◌∙◌, arith}
 use Rattle.std.proofs.lemmas.List.{take_all, length-replicate}
 use Rattle.vm_patches.specs.declared.patch.ByteWrite.{ByteWrite}
 use Rattle.vm_patches.specs.Patches.{patched, zero_bytes}
@@ -7,11 +7,11 @@ use Rattle.vm_swap.proofs.Merged.{get-merged}
 use Rattle.vm_swap.proofs.area.read_page.Goals as goal
 
 -- all bytes of zeros with what was written to them
-whole_range : (writes : List ByteWrite) (n : ℕ) → n ≡ 4096 → slice_range (patched (replicate 4096 0) writes) 0 n ≡ patched zero_bytes writes
+whole_range : (writes : List ByteWrite) (n : ℕ) → n ≡ 4096 → slice_range (patched zero_bytes writes) 0 n ≡ patched zero_bytes writes
 unfolding zero_bytes
 whole_range writes n is =
     let all : n - 0 ≡ n = omega arith in
-    rw all (take_all n (patched (replicate 4096 0) writes) (omega (arith, length-patched (replicate 4096 0) writes, length-replicate {A = ℕ} 4096 0)))
+    rw all (take_all n (patched zero_bytes writes) (omega (arith, length-patched zero_bytes writes, length-replicate {A = ℕ} 4096 0, is)))
 
 pub returns-in-None-None-clause-found : goal.returns-in-None-None-clause-found
 returns-in-None-None-clause-found c =
@@ -51,7 +51,7 @@ returns-in-None-Some-clause-bytes c =
     let whole = ap option_copied (sym c.in-None-Some.is-0) ∙ c.get.ensures in
     let few = ap option_copied (sym c.in-None-Some.is-1) ∙ c.get-2.ensures in
     rw (get-merged c.args.whole.now.values c.args.few.now.values c.args.page, ← whole, ← few)
-    (c.read.ensures ∙ whole_range c.in-None-Some.patch.now (0 + length c.args.buffer.now) (omega (arith, c.requires)))
+    (c.read.ensures ∙ whole_range c.in-None-Some.log.now (0 + length c.args.buffer.now) (omega (arith, c.requires)))
 
 pub returns-in-None-Some-clause-absent : goal.returns-in-None-Some-clause-absent
 returns-in-None-Some-clause-absent c =

@@ -1,0 +1,9 @@
+use Rattle.std.proofs.Common.{◌≡◌, take}
+use Rattle.vm_patches.specs.Runs.{total, writes_in}
+use Rattle.vm_patches.proofs.log.patch_of.Given as goal
+
+abbrev pub invariant-loop-run : goal.invariant-loop-run
+invariant-loop-run l = record {
+  at : l.at ≡ total (take l.run-index l.runs);
+  brought : l.patch ≡ writes_in (take l.run-index l.runs) l.written;
+}
