@@ -48,7 +48,7 @@ pages_of-changed r o r' o' slots slots' held held' page new size there here othe
     ]))
 
 -- the slot of a page that isn't in doesn't matter
-page_of-not_in : (g h : Held) (out : Bool) → page_of g false out ≡ page_of h false out
+pub page_of-not_in : (g h : Held) (out : Bool) → page_of g false out ≡ page_of h false out
 page_of-not_in g h true = refl
 page_of-not_in g h false = refl
 

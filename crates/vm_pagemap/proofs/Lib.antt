@@ -2,3 +2,4 @@ pub mod Resident
 pub mod Places
 pub mod FramesUnder
 mod Kept
+mod Exchanged

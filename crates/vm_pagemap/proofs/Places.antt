@@ -7,7 +7,7 @@ use Rattle.vm_pagemap.specs.declared.page_map.Page.{Page}
 use Rattle.vm_pagemap.specs.declared.page_map.Page.TheVariants.{Absent, In, Out}
 use Rattle.vm_pagemap.specs.declared.page_map.Place.TheVariants.{Absent as IsAbsentPlace, In as IsInPlace, Out as IsOutPlace}
 use Rattle.vm_patches.specs.Patches.{overwritten}
-use Rattle.vm_pagemap.specs.PageMap.{page_at, place_of, places_of, resident, bytes_of, is_in, is_in_place, written, IsIn}
+use Rattle.vm_pagemap.specs.PageMap.{page_at, place_of, places_of, resident, bytes_of, frame_of, is_in, is_in_place, written, IsIn}
 
 -- what a page is after it has changed
 pub page_at-set : (pages : List Page) (page : ℕ) (new : Page) → page < length pages → page_at (set pages page new) page ≡ new
@@ -81,3 +81,9 @@ resident-places_of [] = refl
 resident-places_of (Absent ∷ pages) = ap (λ rest. false ∷ rest) (resident-places_of pages)
 resident-places_of (In frame ∷ pages) = ap (λ rest. true ∷ rest) (resident-places_of pages)
 resident-places_of (Out ∷ pages) = ap (λ rest. false ∷ rest) (resident-places_of pages)
+
+-- a page that is in has a frame
+pub in-frame : (p : Page) → is_in p ≡ true → p ≡ In (frame_of p)
+in-frame Absent there = let no : false ≡ true = there in absurd (cc)
+in-frame (In frame) there = refl
+in-frame Out there = let no : false ≡ true = there in absurd (cc)

@@ -1,5 +1,6 @@
 -- A guest's pages, each with its place and, where it is in, its frame.
 use Rattle.std.specs.Prelude.{◌≡◌, ℕ, Bool, true, false, List, [], map, replicate, slice_index_or}
+use Rattle.vm_frames.specs.Frame.{FrameView}
 use Rattle.vm_patches.specs.Patches.{overwritten}
 use Rattle.vm_pagemap.specs.declared.page_map.Page.{Page}
 use Rattle.vm_pagemap.specs.declared.page_map.Page.TheVariants.{Absent, In, Out}
@@ -50,6 +51,12 @@ abbrev pub bytes_of : Page → List ℕ
 bytes_of Absent = []
 bytes_of (In frame) = frame.bytes
 bytes_of Out = []
+
+-- the frame of a page that is in
+abbrev pub frame_of : Page → FrameView
+frame_of Absent = record { number = 0; bytes = [] }
+frame_of (In frame) = frame
+frame_of Out = record { number = 0; bytes = [] }
 
 -- a page that is in, with bytes written to its frame
 abbrev pub written : Page → ℕ → List ℕ → Page

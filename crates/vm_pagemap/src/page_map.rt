@@ -1,7 +1,9 @@
-ghost use Rattle.std.specs.Prelude.{◌≡◌, ℕ, ◌+◌, ◌==◌, ◌<◌, ◌≤◌, if◌then◌else◌, length, get_or, slice_range, slice_set, slice_index, vec_len, vec_capacity, IfOk, OnErr};
+ghost use Rattle.std.specs.Prelude.{◌≡◌, ℕ, ◌+◌, ◌==◌, ◌<◌, ◌≤◌, if◌then◌else◌, length, get_or, slice_range, slice_set, slice_index, vec_len, vec_capacity, unwrap_or, None, IfOk, OnErr};
+ghost use Rattle.std.specs.FinMap as slots;
+ghost use Rattle.vm_swap.specs.Area.{zero_bytes};
 ghost use Rattle.vm_pages.specs.Pages.{count, members};
 ghost use Rattle.vm_patches.specs.Patches.{overwritten};
-ghost use Rattle.vm_pagemap.specs.PageMap.{absent_pages, page_at, place_of, bytes_of, resident, written, IsIn, IsNotIn};
+ghost use Rattle.vm_pagemap.specs.PageMap.{absent_pages, page_at, place_of, bytes_of, frame_of, resident, written, IsIn, IsNotIn};
 ghost use Rattle.vm_pagemap.specs.declared.page_map.Page.TheVariants.{In, Out, Absent};
 
 use std::alloc::{AllocError, Global};
@@ -9,6 +11,7 @@ use std::marker::Model;
 use vm_frames::PAGE_BYTES;
 use vm_pages::PageSet;
 use vm_patches::PatchedFrame;
+use vm_swap::{PAGE_LIMIT, SwapArea};
 
 /// Where a page of a guest is.
 #[derive(Clone, Copy, Debug, PartialEq, Eq)]
@@ -156,6 +159,28 @@ impl PageMap {
         frame
     }
 
+    /// Moves a page that is in to the swap area, and puts one that is not in into its frame, with its bytes from there or, where it
+    /// isn't there, with zeros. The frame stays where it lies.
+    pub fn exchange(&mut self, page: u32, victim: u32, area: &mut SwapArea)
+        requires in_range { page < length self.old }
+        requires not_in { IsNotIn (page_at self.old page) }
+        requires victim_in_range { victim < length self.old }
+        requires victim_is_in { IsIn (page_at self.old victim) }
+        requires few { length self.old ≤ PAGE_LIMIT }
+        requires absent { slots.get area.old.pages victim ≡ None }
+        requires room { slots.len (slots.remove area.old.pages page) < area.old.capacity }
+        ensures area { area.new ≡ record area.old { pages = slots.insert (slots.remove area.old.pages page) victim (bytes_of (page_at self.old victim)) } }
+        ensures pages { self.new ≡ slice_set (slice_set self.old victim Out) page (In (record (frame_of (page_at self.old victim)) { bytes = unwrap_or (slots.get area.old.pages page) zero_bytes })) }
+    {
+        let slot = self.slots[victim as usize];
+        self.resident.remove(victim);
+        self.out.insert(victim);
+        self.resident.insert(page);
+        let _page_was_out = self.out.remove(page);
+        note_slot(&mut self.slots, page, slot);
+        trade_held(&mut self.held[slot as usize], page, victim, area);
+    }
+
     /// Says that a page without a frame is in the swap area.
     pub fn mark_out(&mut self, page: u32)
         requires in_range { page < length self.old }
@@ -227,6 +252,19 @@ fn note_slot(slots: &mut Vec<u32>, page: u32, slot: u32)
         slots.resize(at + 1, 0).unwrap();
     }
     slots[at] = slot;
+}
+
+// Gives the frame to another page, whose bytes come from the swap area. Those of the page that was in it go there.
+fn trade_held(held: &mut Held, page: u32, victim: u32, area: &mut SwapArea)
+    requires in_range { victim < PAGE_LIMIT }
+    requires absent { slots.get area.old.pages victim ≡ None }
+    requires room { slots.len (slots.remove area.old.pages page) < area.old.capacity }
+    ensures page { held.new.page ≡ page }
+    ensures frame { held.new.frame ≡ record held.old.frame { bytes = unwrap_or (slots.get area.old.pages page) zero_bytes } }
+    ensures area { area.new ≡ record area.old { pages = slots.insert (slots.remove area.old.pages page) victim held.old.frame.bytes } }
+{
+    held.page = page;
+    area.trade(page, victim, &mut held.frame);
 }
 
 // Writes bytes to the page of a frame.

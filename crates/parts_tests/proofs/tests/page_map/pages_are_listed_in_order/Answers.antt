@@ -20,11 +20,16 @@ kept pages page other frame found new there differs is =
 stays_out : (out : FinSet nat_cmp) (first second : ℕ) → contains (insert out first) second ≡ false → IsTrue (contains (remove (insert (insert out first) second) first) second)
 stays_out out first second new = grind (set_members, new)
 
+-- and the first is out until then
+is_out : (out : FinSet nat_cmp) (first second : ℕ) → IsTrue (contains (insert (insert out first) second) first)
+is_out out first second = grind set_members
+
 pub give-requires : goal.give-requires
 give-requires g c =
     let there : 5 < length c.expect-map.result = search rules in
     let first : c.expect-first.result.number ≡ c.remove_frame-first.result.number = kept _ 5 2 _ _ _ there (omega arith) (rw (c.put_frame-2.ensures, c.put_frame.ensures, c.new-3.ensures, c.new-4.ensures) at c.remove_frame-first.ensures.frame) in
-    rw (c.into_frame.ensures, ← first) (grind set_members)
+    let taken : c.take-2.new.self.out ≡ insert (insert c.expect-machine.result.out c.expect-first.result.number) c.expect-second.result.number = search rules in
+    rw (c.into_frame.ensures, ← first, taken) (is_out _ _ _)
 
 pub give-requires-2 : goal.give-requires-2
 give-requires-2 g c =
