@@ -9,7 +9,11 @@ use types.Logic.{Logic}
 use types.Kit.{Goal, Seq, Step, step, Item, ‵, ◌$◌, move, drop, fsplit, fjoin, fpick, fpack, feq_l, feq_i}
 use denote.RattleType.{RattleType, Valss}
 use denote.Param.{layout}
-use denote.Param.Laws.{Laws}
+use denote.Param.Laws.{Laws, of_field}
+use denote.Param.Shared.{copy_shared}
+use denote.RawPtr.{RawPtr}
+use denote.Struct.Field.{RawPtr-field}
+use denote.Struct.Laws.{RawPtr-laws, RawPtr-copy}
 use denote.Steps.{nothing}
 use denote.Struct.Struct.{Struct, within}
 use Rattle.std.proofs.alloc.Calls.{handle_tells}
@@ -20,6 +24,9 @@ Good R v = T (has_ty (layout R) v) × WT v
 -- a struct by its fields alone: what it owns does not read its name
 abbrev pub plainly : List RattleType → RattleType
 plainly Rs = Struct (record { name = []; args = []; types = []; fields = Rs })
+
+abbrev pub pointer_laws : Laws RawPtr
+pointer_laws = of_field RawPtr-field RawPtr-laws refl (copy_shared RawPtr-field RawPtr-copy)
 
 abbrev pub none : Val
 none = vstruct vnil
@@ -69,3 +76,11 @@ module _ {M : Type 1} {𝓤 : Ura M} {𝓛 : Logic 𝓤} {K : Type 0} {Γ : List
 
   pub none_had : K → (vs : List Val) → (vs ≡ none ∷ [] → Seq K 𝓛 Γ G) → Seq K 𝓛 (‵ ((plainly []).own_val tt vs) ∷ Γ) G
   none_had t vs k = fpick t (λ vss. fsplit t $ feq_l t (λ e. drop t $ k e))
+
+module _ {M : Type 1} {𝓤 : Ura M} {𝓛 : Logic 𝓤} {K : Type 0} {Γ : List (Item 𝓤)} {G : Goal 𝓤 𝓛.H} where
+  -- a struct of two, likewise
+  pub two_had : K → (R S : RattleType) → Laws R → Laws S → (x : R.Denot) (y : S.Denot) (vs : List Val)
+      → ((u v : Val) → vs ≡ two u v ∷ [] → Good R u → Good S v → Seq K 𝓛 (‵ (R.own_val x (u ∷ [])) ∷ ‵ (S.own_val y (v ∷ [])) ∷ Γ) G) → Seq K 𝓛 (‵ ((plainly (R ∷ S ∷ [])).own_val (x, (y, tt)) vs) ∷ Γ) G
+  two_had t R S L L' x y vs k =
+      fpick t (λ vss. fsplit t $ feq_l t (λ e. fsplit t $ move t (1 ∷ []) $ fsplit t $ move t (1 ∷ []) $ drop t $ tells t S L' y vss.1.0 (λ v is₁ good₁. move t (1 ∷ []) $ tells t R L x vss.0 (λ u is₀ good₀.
+      k u v (rw (is₀, is₁) at e) good₀ good₁))))

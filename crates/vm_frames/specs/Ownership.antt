@@ -1,11 +1,16 @@
 -- What the owners of a block of pages own. Each page is borrowed by itself for a lifetime a of the block's own.
-use Rattle.std.specs.Prelude.{◌≡◌, refl, ℕ, zero, suc, ◌+◌, [], ◌∷◌}
+use Rattle.std.specs.Prelude.{◌≡◌, refl, ℕ, zero, suc, ◌+◌, List, [], ◌∷◌, Option, Some, None}
 use Rattle.std.specs.Coded.{Coded, code_by, coded×, coded_ℕ}
 use base.Fraction.{full_share}
-use base.Fml.{Share, Fml, ftrue, fsep, fex, fwand, froom, flft, fbor, fobor, flent}
+use base.Fml.{Lft, Fml, ftrue, fsep, froom, flft, fbor, flent}
 use mir.Syntax.{Ty, w8, ty_int, ty_array}
 use prog.Memory.{size}
-use denote.RawPtr.{Ptr, block_ptr, coded_ptr, block_of, count_of}
+use denote.RattleType.{RattleType}
+use denote.Builtin.{u8}
+use denote.Array.{Array}
+use denote.Sharing.{nothing}
+use denote.Struct.Lending.{lent_at}
+use denote.RawPtr.{Ptr, block_ptr, coded_ptr, room_for, lies_at, block_of, count_of}
 
 -- where a block's pages begin, and how many there are
 pub record Extent : Type 0 where
@@ -15,6 +20,15 @@ pub record Extent : Type 0 where
 -- it is stored as the pair of its fields
 abbrev pub extent_code : Coded Extent
 extent_code = code_by (Ptr × ℕ) (coded× coded_ptr coded_ℕ) (λ e. (e.ptr, e.count)) (λ p. record { ptr = p.0; count = p.1 }) (λ _. refl)
+
+-- where an owner's page is, and where the block's first one is
+pub record Hold : Type 0 where
+  pub page : Ptr
+  pub first : Ptr
+
+-- it is stored likewise
+abbrev pub hold_code : Coded Hold
+hold_code = code_by (Ptr × Ptr) (coded× coded_ptr coded_ptr) (λ h. (h.page, h.first)) (λ p. record { page = p.0; first = p.1 }) (λ _. refl)
 
 -- p points into a block
 abbrev pub IsPlaced : Ptr → Type 0
@@ -26,6 +40,20 @@ page_type = ty_array (ty_int w8) 4096
 
 abbrev pub pages_type : ℕ → Ty
 pages_type n = ty_array page_type n
+
+-- the same page as a type of values
+abbrev pub Page : RattleType
+Page = Array u8 4096
+
+-- what a room for a page owns: the page, or the room alone while none is written
+abbrev pub room_owns : Ptr → Option (List ℕ) → Fml
+room_owns p None = room_for page_type p
+room_owns p (Some page) = lies_at Page full_share p page
+
+-- what a `&` to it holds: a `&` to the page
+abbrev pub room_shares : Ptr → Option (List ℕ) → Lft → Fml
+room_shares p None = nothing
+room_shares p (Some page) = lent_at Page p page
 
 -- the right to each of n rooms for a τ, once a has ended
 abbrev pub lent : ℕ → Ty → ℕ → ℕ → ℕ → Fml
@@ -40,14 +68,3 @@ loans a τ (suc n) b o = fsep (fbor (a ∷ []) (froom τ b o)) (loans a τ n b (
 -- what a block owns: the token of a, and its pages once a has ended
 abbrev pub block_owns : ℕ → Extent → Fml
 block_owns a e = fsep (flft (a ∷ []) full_share) (lent a page_type e.count (block_of e.ptr) (count_of e.ptr))
-
-module _ (p : Ptr) (X : Type 0) (own : X → Fml) where
-  -- s is the owner's lifetime and the block's, and shares of their tokens. The first keeps out the second, and that the page
-  abbrev pub tether_held : X → ℕ × ℕ × Share × Share → Fml
-  tether_held x s =
-      fsep (fwand (flft (s.0 ∷ []) s.2) (own x))
-      (fsep (fobor (s.0 ∷ []) s.2 (flft (s.1 ∷ []) s.3)) (fobor (s.1 ∷ []) s.3 (froom page_type (block_of p) (count_of p))))
-
-  -- what an owner x of the block has while its page is out
-  abbrev pub tether_owns : Fml
-  tether_owns = fex X (λ x. fex (IsPlaced p) (λ _. fex (ℕ × ℕ × Share × Share) (tether_held x)))

@@ -3,7 +3,7 @@ use Rattle.vm_frames.proofs.memory.owners.Given as goal
 
 abbrev pub invariant-loop-owners : goal.invariant-loop-owners
 invariant-loop-owners l = record {
-  each : All (λ o. o.value.life ≡ l.block.value.life) l.owners.items;
+  each : All (λ o. o.value ≡ l.block.value) l.owners.items;
   within : vec_len l.owners ≤ l.count;
   room : l.count ≤ vec_capacity l.owners;
 }

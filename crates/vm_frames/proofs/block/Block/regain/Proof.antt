@@ -1,7 +1,7 @@
 -- `regain` ends the lifetime, and hands the pages back to the vector. Assumes `Logic`.
 use Rattle.std.proofs.Common.{List, [], ◌∷◌, ◌++◌, refl, ap, sym}
 use seplogic.Ra.Ura.{Ura}
-use mir.Syntax.{Fn, Args, Dict, a_type, dcons, dnil}
+use mir.Syntax.{ty_ptr, Fn, Args, Dict, a_type, dcons, dnil}
 use mir.Val.{Val}
 use mir.MapTy.{inst_fn}
 use base.Fraction.{full_share}
@@ -32,12 +32,12 @@ use denote.Triple.Table.{entered}
 use denote.Triple.Walked.{Stays, stay_dropped, walk_of, ends_at, walk_Meets}
 use Rattle.std.specs.declared.alloc.Allocator.{Ghosts}
 use Rattle.std.proofs.alloc.Calls.{Goes-blank}
-use Rattle.vm_frames.proofs.BlockWalks.{plainly, one, one_had}
+use Rattle.vm_frames.proofs.BlockWalks.{plainly, one_had, two_had, two, pointer_laws}
 use contract.BorrowLft.{◌⊑◌}
 use denote.Struct.Laws.{u8-laws, u8-copy}
 use denote.Struct.Field.{u8-field}
 use denote.Param.Shared.{copy_shared}
-use denote.RawPtr.{block_of, count_of, room_for}
+use denote.RawPtr.{RawPtr, block_of, count_of, room_for}
 use denote.Struct.Struct.{as_fields}
 use types.Tokens.{lft_end}
 use Rattle.std_alloc.specs.contracts.vec.Vec as Vec
@@ -97,23 +97,23 @@ module _ (A : RattleType) (L : Laws A) (g : Ghosts A.Denot) (d dd : Dict) where
           let B = Block.the_row P g in
           qed 𝓛 ((raw toks ⊛ ‵ (owns (types_at ended.signature.params z.0.0) a vss)) ∷ (raw (fact 𝓤 (z.0.0.0 ⊑ A.lives)) ⊛ ‵ ftrue) ∷ []) ∵
           move ! (1 ∷ []) $ drop ! $ split ! $ move ! (1 ∷ []) $
-          fsplit ! $ fsplit ! $ one_had ! S (shell-laws.the_row_laws P g LP) e vss.0 (λ u is₀ good. fsplit ! $ fpick ! (λ typed. drop ! $ fpick ! (λ v.
+          fsplit ! $ fsplit ! $ two_had ! RawPtr S pointer_laws (shell-laws.the_row_laws P g LP) block.first e vss.0 (λ r u is₀ at good. drop ! $ fsplit ! $ fpick ! (λ typed. drop ! $ fpick ! (λ v.
           -- [the way back; what the block owns; nothing; the tokens]
           let Pages = room_for (pages_type e.count) e.ptr in
           let Whole = (plainly (V ∷ [])).own_val (v.vec, tt) (u ∷ []) in
           regoal ! (λ (us : List Val). prop (WpFn 𝓤 H C Λ function (us ++ []) Post)) is₀ refl $
-          enter ! C Λ function (one u ∷ []) Post $ alloc_all ! (λ l. pass_all ! refl (as_fields (layout S ∷ []) (u ∷ []) (good, tt), tt) $
+          enter ! C Λ function (two r u ∷ []) Post $ alloc_all ! (λ l. pass_all ! refl (as_fields (ty_ptr ∷ layout S ∷ []) (r ∷ u ∷ []) (at, (good, tt)), tt) $
           move ! (1 ∷ []) $ fsplit ! $ lft_end ! tt $
           use2 𝓛 (later (‵ (froom (pages_type e.count) b o))) (regain 𝓛 block.life page_type b e.count o) $ await ! tt $
           rewrite ! 0 (λ r. ‵ (room_for (pages_type e.count) r)) (sym block.placed) refl $
           use2 𝓛 (‵ Whole) (apply∗ 𝓤 (sem 𝓛 Pages) (sem 𝓛 Whole)) $
           one_had ! V (vec_laws.the_row_laws u8 P g (of_field u8-field u8-laws refl (copy_shared u8-field u8-copy)) LP) v.vec (u ∷ []) (λ w shape fine.
-          take_at ! 1 $ rewrite ! 0 (λ y. ‵ (fat full_share (layout B) (l 1) 0 (one y))) (ap only shape) refl $ give_at ! 1 $
-          sets ! (of_opd ! (get_in ! (fld ! refl (stop !)) (sub ! 0 refl (whole !)))) refl (as_fields (layout V ∷ []) (w ∷ []) (fine, tt)) $
+          take_at ! 1 $ rewrite ! 0 (λ y. ‵ (fat full_share (layout B) (l 1) 0 (two r y))) (ap only shape) refl $ give_at ! 1 $
+          sets ! (of_opd ! (get_in ! (fld ! refl (stop !)) (sub ! 1 refl (whole !)))) refl (as_fields (layout V ∷ []) (w ∷ []) (fine, tt)) $
           sets ! (of_opd ! (get_in ! (fld ! refl (stop !)) (sub ! 0 refl (whole !)))) refl fine $
           sets ! (of_opd ! (get ! refl)) refl fine $
           returns ! (look_at ! 0 refl) $ free_all ! refl $
-          suffices ! _ (ends_at 𝓛 ended stayed held z w v.vec ((tt, tt), tt) (tt, tt)) $
+          suffices ! _ (ends_at 𝓛 ended stayed held z w v.vec ((tt, (tt, tt)), tt) (tt, tt)) $
           move ! (1 ∷ []) $ drop ! $ nothing ! $ nothing ! $ fjoin ! $ move ! (2 ∷ 0 ∷ 1 ∷ []) $ group ! 3 $ nothing ! $ move ! (1 ∷ 0 ∷ []) $ done !)))))
 
     meets : (𝓣 : Tables 𝓤 H) → Meets 𝓛 ended.signature (WpFn 𝓤 H 𝓣.C 𝓣.Λ function) (closing 𝓛 ended held)

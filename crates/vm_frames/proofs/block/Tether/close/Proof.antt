@@ -1,5 +1,5 @@
 -- `close` puts the page back, and with it the two tokens. Assumes `Logic`.
-use Rattle.std.proofs.Common.{◌≡◌, List, [], ◌∷◌, ◌++◌, refl, ap}
+use Rattle.std.proofs.Common.{◌≡◌, List, [], ◌∷◌, ◌++◌, refl, ap, None}
 use seplogic.Ra.Ura.{Ura}
 use mir.Syntax.{Fn, Args, Dict, a_type, dcons, dnil}
 use mir.Val.{Val}
@@ -37,7 +37,7 @@ use Rattle.vm_frames.specs.contracts.block.Tether as Tether
 use contract.BorrowLft.{◌⊑◌}
 use denote.RawPtr.{room_for}
 use types.Tokens.{obor_close}
-use Rattle.vm_frames.specs.Ownership.{page_type}
+use Rattle.vm_frames.specs.Ownership.{page_type, room_owns}
 use Rattle.vm_frames.proofs.block.Tether.TheLaws as tether-laws
 use Rattle.vm_frames.proofs.BlockOwners.{Counted, counted-laws}
 use Rattle.vm_frames.specs.contracts.block.Tether.close as F
@@ -81,27 +81,29 @@ module _ (A : RattleType) (L : Laws A) (g : Ghosts A.Denot) (d dd : Dict) where
       walks =
           let a = z.0.3 in
           let vss = z.0.4 in
-          let p = a.0 in
+          let h = a.0 in
+          let p = h.page in
           let R = Counted P g LP in
           let T = Tether.the_row P g in
-          let Asked = a.1.0.ptr ≡ p in
+          let room : (Room.the_row).Denot = record { ptr = p; page = None } in
+          let Asked = a.1.0 ≡ room in
           qed 𝓛 ((raw toks ⊛ ‵ (owns (types_at ended.signature.params z.0.0) a vss)) ∷ (raw (fact 𝓤 (z.0.0.0 ⊑ A.lives)) ⊛ raw (fact 𝓤 Asked)) ∷ []) ∵
           move ! (1 ∷ []) $ split ! $ drop ! $ heard ! Asked (λ asked. split ! $ move ! (1 ∷ []) $
-          fsplit ! $ tells ! T (tether-laws.the_row_laws P g LP) p vss.0 (λ v is₀ fine. move ! (1 ∷ []) $ fsplit ! $ fsplit ! $ none_had ! vss.1.0 (λ is₁. move ! (1 ∷ []) $ drop ! $
+          fsplit ! $ tells ! T (tether-laws.the_row_laws P g LP) h vss.0 (λ v is₀ fine. move ! (1 ∷ []) $ fsplit ! $ fsplit ! $ none_had ! vss.1.0 (λ is₁. move ! (1 ∷ []) $ drop ! $
           regoal ! (λ (us : List Val). prop (WpFn 𝓤 H C Λ function (us ++ (vss.1.0 ++ [])) Post)) is₀ refl $
           regoal ! (λ (us : List Val). prop (WpFn 𝓤 H C Λ function ((v ∷ []) ++ (us ++ [])) Post)) is₁ refl $
           enter ! C Λ function (v ∷ none ∷ []) Post $ alloc_all ! (λ l. pass_all ! refl (fine, ((tt, tt), tt)) $
-          move ! (1 ∷ []) $ fsplit ! $ drop ! $ fpick ! (λ x. fpick ! (λ placed. fpick ! (λ w. fsplit3 ! $
-          -- [the way back; the owner's open borrow; the page's; the room; the tokens; ..]
-          move ! (3 ∷ []) $ rewrite ! 0 (λ r. ‵ (room_for page_type r)) asked refl $ rewrite ! 0 (λ r. ‵ (room_for page_type r)) placed refl $ move ! (3 ∷ 0 ∷ []) $ obor_close ! tt $ drop ! $
-          move ! (2 ∷ 0 ∷ []) $ obor_close ! tt $ drop ! $
-          let Whole = (plainly (R ∷ [])).own_val (x.block, tt) (v ∷ []) in
-          use2 𝓛 (‵ Whole) (apply∗ 𝓤 (sem 𝓛 (flft (w.0 ∷ []) w.2)) (sem 𝓛 Whole)) $ one_had ! R (counted-laws P g LP) x.block (v ∷ []) (λ u shape good.
+          move ! (1 ∷ []) $ fsplit ! $ drop ! $ fpick ! (λ x. fpick ! (λ tied. fpick ! (λ w. fsplit ! $ fsplit ! $ drop ! $ fsplit ! $ drop ! $ fsplit ! $ move ! (1 ∷ []) $ drop ! $ move ! (1 ∷ []) $ fsplit3 ! $
+          -- [the way back; the owner's open borrow; the page's; the other half of the owner's token; the room; the tokens; ..]
+          move ! (4 ∷ []) $ rewrite ! 0 (λ (r : (Room.the_row).Denot). ‵ (room_owns r.ptr r.page)) asked refl $ rewrite ! 0 (λ r. ‵ (room_for page_type r)) tied.placed refl $ move ! (3 ∷ 0 ∷ []) $ obor_close ! tt $ drop ! $
+          move ! (2 ∷ 0 ∷ []) $ obor_close ! tt $ drop ! $ move ! (0 ∷ 2 ∷ []) $ use2 𝓛 (‵ (flft (w.0 ∷ []) w.2)) (𝓛.lfts.lft_join (w.0 ∷ []) w.2) $
+          let Whole = (plainly (R ∷ [])).own_val (x, tt) (v ∷ []) in
+          use2 𝓛 (‵ Whole) (apply∗ 𝓤 (sem 𝓛 (flft (w.0 ∷ []) w.2)) (sem 𝓛 Whole)) $ one_had ! R (counted-laws P g LP) x (v ∷ []) (λ u shape good.
           take_at ! 1 $ rewrite ! 0 (λ y. ‵ (fat full_share (layout T) (l 1) 0 y)) (ap only shape) refl $ give_at ! 1 $
           sets ! (of_opd ! (get_in ! (fld ! refl (stop !)) (sub ! 0 refl (whole !)))) refl good $
           sets ! (of_opd ! (get ! refl)) refl good $
           returns ! (look_at ! 0 refl) $ free_all ! refl $
-          suffices ! _ (ends_at 𝓛 ended stayed held z u x.block (tt, (tt, tt)) (tt, (tt, tt))) $
+          suffices ! _ (ends_at 𝓛 ended stayed held z u x (tt, (tt, tt)) (tt, (tt, tt))) $
           nothing ! $ nothing ! $ fjoin ! $ nothing ! $ fjoin ! $ move ! (2 ∷ 0 ∷ 1 ∷ []) $ group ! 3 $ nothing ! $ move ! (1 ∷ 0 ∷ []) $ done !))))))))
 
     meets : (𝓣 : Tables 𝓤 H) → Meets 𝓛 ended.signature (WpFn 𝓤 H 𝓣.C 𝓣.Λ function) (closing 𝓛 ended held)

@@ -1,11 +1,11 @@
 -- `open` locks the owner's token, then a share of the block's, and takes the first page out. Assumes `Logic`.
-use Rattle.std.proofs.Common.{◌≡◌, ℕ, ◌+◌, ◌-◌, ◌<◌, List, [], ◌∷◌, ◌++◌, refl, sym, ap, subst}
+use Rattle.std.proofs.Common.{◌≡◌, ℕ, ◌+◌, ◌-◌, ◌<◌, List, [], ◌∷◌, ◌++◌, refl, sym, ap, subst, None}
 use seplogic.Ra.Ura.{Ura}
 use mir.Syntax.{Fn, Args, Dict, a_type, dcons, dnil}
 use mir.Val.{Val}
 use mir.MapTy.{inst_fn}
 use base.Logic.{SProp, ent}
-use base.Fml.{Lft, ftrue, flft, fbor, froom, Share, fex, fwand, fshr_bor}
+use base.Fml.{fsep, finv, Lft, ftrue, flft, fbor, froom, Share, fex, fwand, fshr_bor}
 use prog.Memory.{Memory}
 use prog.Routine.{Routine}
 use prog.Wp.{Calls, Loops, WpFn, Tables}
@@ -30,17 +30,20 @@ use denote.Triple.Walked.{Stays, stay_dropped, walk_of, ends_at, walk_Meets}
 use Rattle.std.specs.declared.alloc.Allocator.{Ghosts}
 use Rattle.std.proofs.mem.Facts.{says_three}
 use Rattle.std.proofs.alloc.Calls.{Goes-blank}
-use Rattle.vm_frames.proofs.BlockWalks.{none, one, three, tells, none_made, three_made, none_had}
+use Rattle.vm_frames.proofs.BlockWalks.{none, one, three, tells, one_made, none_made, three_made, none_had}
 use Rattle.vm_frames.specs.contracts.block.Loan as Loan
 use Rattle.vm_frames.specs.contracts.block.Room as Room
 use Rattle.vm_frames.specs.contracts.block.Tether as Tether
 use contract.BorrowLft.{◌⊑◌}
 use denote.Laws.{Typed}
-use denote.RawPtr.{Ptr, block_ptr, block_of, count_of, room_for, ◌+ₚ◌}
+use denote.RawPtr.{RawPtr, Ptr, block_ptr, block_of, count_of, room_for, ◌+ₚ◌}
 use denote.Struct.Struct.{as_fields}
 use Rattle.vm_frames.specs.contracts.block.Tether.TheInside as Inside
 use types.Tokens.{bor_open, shr_bor-open}
-use Rattle.vm_frames.specs.Ownership.{IsPlaced, loans, page_type, tether_held}
+use Rattle.vm_frames.specs.Ownership.{Hold, IsPlaced, loans, page_type}
+use Rattle.vm_frames.specs.Tethers.{Wrapped, Owner, IsTied, owner_count, owner_shown, owner_lent, owner_locked}
+use Rattle.std_alloc.specs.Arc.Ownership.{ptr_in_block}
+use base.Share
 use Rattle.vm_frames.proofs.BlockOwners.{Counted, counted-laws, owner_out, token_halves}
 use Rattle.vm_frames.proofs.PageLoans.{first_loan}
 use Rattle.vm_frames.specs.contracts.block.Tether.open as F
@@ -85,12 +88,12 @@ module _ (A : RattleType) (L : Laws A) (g : Ghosts A.Denot) (d dd : Dict) where
           let s = a.1.0 in
           let R = Counted P g LP in
           let T = Tether.the_row P g in
-          let X = (Inside.the_row P g).Denot in
+          let h : Hold = record { page = s.ptr; first = arc.value.first } in
           let life : Lft = s.life ∷ [] in
           let p : Ptr = s.ptr in
           let b = block_of p in
           let o = count_of p in
-          let room : (Room.the_row).Denot = record { ptr = p } in
+          let room : (Room.the_row).Denot = record { ptr = p; page = None } in
           let moved : p +ₚ 4096 ≡ block_ptr b (o + 4096) = ap (λ r. r +ₚ 4096) s.placed in
           let rest : (Loan.the_row).Denot = record { life = s.life; ptr = p +ₚ 4096; count = s.count - 1; placed = subst IsPlaced (sym moved) refl } in
           let Lender = s.life ≡ arc.value.life in
@@ -99,8 +102,10 @@ module _ (A : RattleType) (L : Laws A) (g : Ghosts A.Denot) (d dd : Dict) where
           move ! (1 ∷ []) $ split3 ! $ heard ! (z.0.0.0 ⊑ A.lives) (λ lives. heard ! Lender (λ lender. heard ! Some (λ any. split ! $ move ! (1 ∷ []) $
           fsplit ! $ tells ! R (counted-laws P g LP) arc vss.0 (λ u is₀ good. move ! (1 ∷ []) $ fsplit ! $ fsplit ! $ none_had ! vss.1.0 (λ is₁. move ! (1 ∷ []) $ drop ! $
           let inner = as_fields (layout R ∷ []) (u ∷ []) (good, tt) in
-          let own = λ (i : X). (Inside.the_row P g).own_val i (one u ∷ []) in
-          let x : X = record { block = arc } in
+          let own = λ (i : Owner P g). (Inside.the_row P g).own_val (record { block = i }) (one u ∷ []) in
+          let shown = λ (n : ℕ). fsep (ptr_in_block arc.ptr) (fsep (finv (owner_count P g arc n)) (owner_shown P g arc n)) in
+          let all = λ (i : Owner P g) (k : ℕ × ℕ × Share × Share). fsep (owner_lent P g i k.0 k.2 (one u ∷ [])) (owner_locked P g (own i) p k) in
+          let tied : IsTied h arc.value.first = record { placed = s.placed; first = refl } in
           regoal ! (λ (us : List Val). prop (WpFn 𝓤 H C Λ function (us ++ (vss.1.0 ++ [])) Post)) is₀ refl $
           regoal ! (λ (us : List Val). prop (WpFn 𝓤 H C Λ function ((u ∷ []) ++ (us ++ [])) Post)) is₁ refl $
           enter ! C Λ function (u ∷ none ∷ []) Post $ alloc_all ! (λ l. pass_all ! refl (good, ((tt, tt), tt)) $
@@ -111,22 +116,29 @@ module _ (A : RattleType) (L : Laws A) (g : Ghosts A.Denot) (d dd : Dict) where
           sets ! (agg ! (and_then ! (get ! refl) (and_then ! (get ! refl) (and_then ! (get ! refl) (no_more !))))) refl (as_fields (layout Room.the_row ∷ layout T ∷ layout Loan.the_row ∷ []) (none ∷ one u ∷ none ∷ []) ((tt, tt), (inner, ((tt, tt), tt)))) $
           -- [the loans; the owner; the tokens; ..]
           move ! (2 ∷ []) $ split ! $ move ! (3 ∷ 0 ∷ []) $
-          use2 𝓛 (later (some (λ (w : ℕ × Share). ‵ (fshr_bor (w.0 ∷ []) (λ q. flft (arc.value.life ∷ []) q)) ⊛ ‵ (flft (w.0 ∷ []) w.1) ⊛ ‵ (fwand (flft (w.0 ∷ []) w.1) (own x))) ⊛ ‵ (flft z.0.0.0 z.0.1.0))) (owner_out P g LP 𝓛 arc u z.0.0.0 z.0.1.0 lives) $
-          await ! tt $ split ! $ move ! (1 ∷ 2 ∷ []) $ join ! $ move ! (1 ∷ 2 ∷ []) $ pick ! (λ w. split3 ! $ rewrite ! 0 (λ i. ‵ (fshr_bor (w.0 ∷ []) (λ q. flft (i ∷ []) q))) (sym lender) refl $
-          shr_bor-open ! tt (token_halves 𝓛 life) (λ q. move ! (3 ∷ []) $
+          use2 𝓛 (later (some (λ (w : ℕ × Share). ‵ (fshr_bor (w.0 ∷ []) (λ q. flft (arc.value.life ∷ []) q)) ⊛ (‵ (flft (w.0 ∷ []) w.1) ⊛ (‵ ((Wrapped RawPtr).own_val (arc.ptr, tt) (u ∷ [])) ⊛ (‵ (shown w.0) ⊛ ‵ (fwand (flft (w.0 ∷ []) w.1) (own arc))))))
+          ⊛ ‵ (flft z.0.0.0 z.0.1.0))) (owner_out P g LP 𝓛 arc u z.0.0.0 z.0.1.0 lives) $
+          await ! tt $ split ! $ move ! (1 ∷ 2 ∷ []) $ join ! $ move ! (1 ∷ 2 ∷ []) $ pick ! (λ w. split ! $ move ! (1 ∷ []) $ split ! $ move ! (1 ∷ []) $ split3 ! $ move ! (4 ∷ 3 ∷ []) $
+          -- [a share of the block's token; the owner's token; the bits; what is shown; the way back; the loans; the tokens; ..]
+          let ν : Lft = w.0 ∷ [] in
+          let e = w.1 in
+          rewrite ! 0 (λ i. ‵ (fshr_bor ν (λ q. flft (i ∷ []) q))) (sym lender) refl $
+          move ! (1 ∷ []) $ use1 𝓛 (‵ (flft ν (Share.left e)) ⊛ ‵ (flft ν (Share.right e))) (𝓛.lfts.lft_split ν e) $ split ! $ move ! (2 ∷ 0 ∷ []) $
+          shr_bor-open ! tt (token_halves 𝓛 life) (λ q. move ! (6 ∷ []) $
           use1 𝓛 (‵ (fbor life (froom page_type b o)) ⊛ ‵ (loans s.life page_type (s.count - 1) b (o + 4096))) (first_loan 𝓛 s.life page_type b s.count o any) $ split ! $
-          -- [the first loan; the others; the owner's open borrow; the block's token; the way back; the tokens; ..]
-          move ! (0 ∷ 3 ∷ []) $ bor_open ! tt $ move ! (4 ∷ 3 ∷ 0 ∷ []) $ fjoin3 ! $
-          fpack ! (ℕ × ℕ × Share × Share) (tether_held p X own x) (w.0, s.life, w.1, q) $
-          fpack ! (IsPlaced p) (λ _. fex (ℕ × ℕ × Share × Share) (tether_held p X own x)) s.placed $
-          fpack ! X (λ i. fex (IsPlaced p) (λ _. fex (ℕ × ℕ × Share × Share) (tether_held p X own i))) x $
+          -- [the first loan; the others; the owner's open borrow; the block's token; a half of the owner's; the bits; what is shown; the way back; the tokens; ..]
+          move ! (0 ∷ 3 ∷ []) $ bor_open ! tt $ move ! (7 ∷ 3 ∷ 0 ∷ []) $ fjoin3 ! $
+          move ! (5 ∷ []) $ fsplit ! $ move ! (5 ∷ 1 ∷ []) $ fjoin ! $ move ! (1 ∷ 0 ∷ []) $ fjoin ! $ move ! (4 ∷ []) $ one_made ! (Wrapped RawPtr) (arc.ptr, tt) u $ fjoin ! $ fjoin ! $
+          fpack ! (ℕ × ℕ × Share × Share) (all arc) (w.0, s.life, e, q) $
+          fpack ! (IsTied h arc.value.first) (λ _. fex (ℕ × ℕ × Share × Share) (all arc)) tied $
+          fpack ! (Owner P g) (λ i. fex (IsTied h i.value.first) (λ _. fex (ℕ × ℕ × Share × Share) (all i))) arc $
           nothing ! $ fpack ! (Typed T.mir (one u ∷ [])) (λ _. ftrue) (inner, tt) $ fjoin ! $
           -- [the tether; the room; the other loans; the tokens; ..]
           move ! (1 ∷ []) $ rewrite ! 0 (λ r. ‵ (room_for page_type r)) (sym s.placed) refl $ none_made ! $ fjoin ! $
           move ! (2 ∷ []) $ rewrite ! 0 (λ r. ‵ (loans s.life page_type (s.count - 1) (block_of r) (count_of r))) (sym moved) refl $ none_made ! $ fjoin ! $
-          move ! (1 ∷ 2 ∷ 0 ∷ []) $ three_made ! Room.the_row T Loan.the_row room p rest none (one u) none $
+          move ! (1 ∷ 2 ∷ 0 ∷ []) $ three_made ! Room.the_row T Loan.the_row room h rest none (one u) none $
           returns ! (look_at ! 0 refl) $ free_all ! refl $
-          suffices ! _ (ends_at 𝓛 ended stayed held z (three none (one u) none) (room, p, rest) (tt, (tt, tt)) (tt, (tt, tt))) $ says_three ! (refl, refl, record { life = refl; begins = refl; count = refl }) $
+          suffices ! _ (ends_at 𝓛 ended stayed held z (three none (one u) none) (room, h, rest) (tt, (tt, tt)) (tt, (tt, tt))) $ says_three ! (refl, refl, record { life = refl; begins = refl; count = refl }) $
           nothing ! $ nothing ! $ fjoin ! $ nothing ! $ fjoin ! $ move ! (2 ∷ 0 ∷ 1 ∷ []) $ done !))))))))
 
     meets : (𝓣 : Tables 𝓤 H) → Meets 𝓛 ended.signature (WpFn 𝓤 H 𝓣.C 𝓣.Λ function) (closing 𝓛 ended held)

@@ -1,0 +1,48 @@
+-- `clear` lets the page go and keeps its room. Assumes `Logic`.
+use Rattle.std.proofs.Common.{[], ◌∷◌, None, refl}
+use Rattle.std.proofs.raw_atomic.Walks.{proved}
+use base.Fml.{ftrue, flft}
+use mir.Syntax.{named}
+use mir.Val.{vunit}
+use types.Kit.{‵, ◌⊛◌, ◌$◌, ◌∵◌, !, qed, done, move, keep, use1, split, join, fsplit, fsplit3, fjoin, feq_i, suffices, frame, group}
+use types.Run.{enter, of_opd, unit_lit, returns}
+use types.ByLocal.{alloc_all, pass_all, free_all, look_at, sets}
+use denote.RawPtr.{room_for}
+use denote.Ref.{MutRef, mut_vals, mut_Tells}
+use denote.Signature.{plain}
+use denote.Steps.{nothing, opens, closes}
+use denote.Triple.Walked.{Stays, says, stay_ref, Goes-ref, ends_at}
+use Rattle.vm_frames.specs.Ownership.{page_type}
+use Rattle.vm_frames.specs.contracts.block.Room.{the_row as R}
+use Rattle.vm_frames.proofs.RoomSteps.{emptied}
+use Rattle.vm_frames.specs.contracts.block.Room.clear as f
+use Rattle.vm_frames.proofs.block.Room.clear.Statement.{statement}
+use Rattle.vm_frames.proofs.block.Room.clear.Code as code
+
+abbrev stayed : Stays f.ended.signature.params f.ended.kept
+stayed = (stay_ref (0 ∷ []) tt (plain (λ _. R)), tt)
+
+pub clear_spec : {M : Type 1} → statement M
+clear_spec 𝓤 𝓛 𝓜 𝓡 wired =
+    let c = f.clauses 𝓛 𝓜.mem 𝓡.returns in
+    proved 𝓛 f.ended stayed c 𝓜 𝓡 (Goes-ref 𝓛 1 0 tt (plain (λ _. R)), tt)
+    f.Key.name code.function (code.unfolded 𝓤 𝓛.H 𝓜 𝓡 wired)
+    (λ κs. (mut_vals, tt)) (λ κs. (mut_Tells (named 0) κs.0 R, tt)) (λ κs qs bounds a _ are.
+    let b = a.0.ref_ptr.0 in
+    let o = a.0.ref_ptr.1 in
+    let h = a.0.now in
+    let empty : R.Denot = record h { page = None } in
+    let vs = mut_vals a.0 in
+    qed 𝓛 (((‵ (flft κs.0 qs.0) ⊛ ‵ ftrue) ⊛ ‵ ((MutRef (named 0) κs.0 R).own_val a.0 vs) ⊛ ‵ ftrue) ∷ ‵ ftrue ∷ []) ∵
+    split ! $ split ! $ move ! (2 ∷ []) $ split ! $ keep ! (0 ∷ 2 ∷ []) $
+    enter ! _ _ _ _ _ $ alloc_all ! (λ l. pass_all ! refl ((tt, tt), tt) $
+    sets ! (of_opd ! (unit_lit !)) refl (tt, tt) $
+    fsplit3 ! $ move ! (1 ∷ 2 ∷ 3 ∷ []) $ opens ! tt R b o (λ us.
+    -- [the struct's cell; what it owns; the open borrow, in three entries]
+    move ! (1 ∷ []) $ fsplit ! $ move ! (1 ∷ []) $ use1 𝓛 (‵ (room_for page_type h.ptr)) (emptied 𝓛 h.ptr h.page) $
+    move ! (1 ∷ []) $ fjoin ! $ move ! (1 ∷ []) $ closes ! tt R empty us b o $
+    -- [two parts of self; the token; self's first part]
+    returns ! (look_at ! 0 refl) $ free_all ! refl $ move ! (3 ∷ []) $
+    suffices ! _ (ends_at 𝓛 f.ended stayed c ((κs, qs, bounds, a, (vs, tt)), tt) vunit tt (empty, tt) (tt, tt)) $ says ! refl $
+    group ! 3 $ nothing ! $ move ! (1 ∷ 0 ∷ []) $ join ! $ nothing ! $ move ! (2 ∷ 0 ∷ []) $ join ! $ frame ! $ frame ! $
+    feq_i ! _ (vunit ∷ []) _ refl $ done !)))
