@@ -8,6 +8,7 @@
 mod error;
 mod find;
 mod number;
+mod plain;
 mod reading;
 mod value;
 

@@ -8,8 +8,10 @@ ghost use Rattle.vm_json.specs.declared.error.ReadError.TheVariants.{Memory, Not
 
 use crate::error::ReadError;
 use crate::number::is_in_range;
+use crate::plain::read_plain;
 use crate::value::{Value, read_value};
 use json::{Reader, Scratch};
+use memchr::memchr;
 use std::alloc::Global;
 
 // How deep arrays and objects may nest.
@@ -41,8 +43,27 @@ pub fn read<'a>(
     Ok(value)
 }
 
-// The value whose numbers may have any size.
+// The value whose numbers may have any size. A text without escapes is read from its bytes, and any other, or one that is not
+// understood that way, from its tokens.
 fn read_json<'a>(
+    alloc: Global,
+    text: &'a str,
+    scratch: &'a mut Scratch,
+) -> Result<Value<'a>, ReadError>
+    ensures ok { IfOk result (λ v. json_of text.now ≡ Some (value_view v)) }
+    ensures refused { result ≡ Err NotJson → json_of text.now ≡ None }
+    ensures memory { result ≡ Err Memory → 0 < length text.now }
+{
+    if memchr(b'\\', text.as_bytes()).is_none() {
+        if let Some(value) = read_plain(alloc, text, MAX_DEPTH)? {
+            return Ok(value);
+        }
+    }
+    read_tokens(alloc, text, scratch)
+}
+
+// The same, from the tokens.
+fn read_tokens<'a>(
     alloc: Global,
     text: &'a str,
     scratch: &'a mut Scratch,

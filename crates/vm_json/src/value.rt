@@ -32,7 +32,7 @@ pub enum Value<'a> {
 }
 
 // Adds a text behind the other items, of which texts are kept by themselves until another value comes.
-fn gather<'a>(
+pub(crate) fn gather<'a>(
     texts: &mut Vec<&'a str>,
     values: &mut Vec<Value<'a>>,
     text: &'a str,
@@ -47,9 +47,14 @@ fn gather<'a>(
     }
 }
 
-fn add<T: Drop>(items: &mut Vec<T>, item: T) -> Result<(), AllocError>
+#[inline(always)]
+pub(crate) fn add<T: Drop>(items: &mut Vec<T>, item: T) -> Result<(), AllocError>
     ensures ok { OnOk result (items.new.items ≡ items.old.items ++ item ∷ []) }
 {
+    if items.len() < items.capacity() {
+        items.push_reserved(item);
+        return Ok(());
+    }
     items.push(item)?;
     Ok(())
 }
@@ -76,7 +81,7 @@ fn values_of<'a>(
 }
 
 // The array of all that was gathered.
-fn array_of<'a>(
+pub(crate) fn array_of<'a>(
     alloc: Global,
     texts: Vec<&'a str>,
     values: Vec<Value<'a>>,

@@ -1,6 +1,6 @@
 // JSON values and what is read from them.
 use super::check_eq;
-use std::alloc::Global;
+use std::alloc::{AllocError, Global};
 use std::process::Abort;
 use vm_json::{
     ReadError, Scratch, Value, into_values, is_object, items, member, read, take_member, truth,
@@ -136,4 +136,138 @@ fn values_are_moved_out(rt: HostRuntime) {
     check_eq(&rt, moved_out(&rt, b"[{},\"a\"]"), Some(2));
     check_eq(&rt, moved_out(&rt, b"[\"a\",\"b\"]"), None);
     check_eq(&rt, moved_out(&rt, b"{}"), None);
+}
+
+#[test]
+fn each_place_of_a_text_is_seen(rt: HostRuntime) {
+    let mut array = [b'a'; 40];
+    array[0] = b'[';
+    array[1] = b'"';
+    array[38] = b'"';
+    array[39] = b']';
+    check_eq(&rt, refusal(rt.alloc(), &array), None);
+    for place in 2..38 {
+        for byte in [0x1f, b'"', b'\\'] {
+            array[place] = byte;
+            check_eq(&rt, refusal(rt.alloc(), &array), Some(ReadError::NotJson));
+        }
+        array[place] = b'a';
+    }
+}
+
+#[test]
+fn texts_of_all_lengths_are_whole(rt: HostRuntime) {
+    let bytes =
+        b"[\"\",\"abcdefghijklmno\" ,\n\"abcdefghijklmnop\"\t, \"abcdefghijklmnopq\",\"\xc3\xa4\"]";
+    let wanted = [
+        Some(""),
+        Some("abcdefghijklmno"),
+        Some("abcdefghijklmnop"),
+        Some("abcdefghijklmnopq"),
+        Some("ä"),
+    ];
+    check_array(&rt, bytes, &wanted);
+    check_array(
+        &rt,
+        b"[\"abcdefghijklmno\",\"abcdefghijklmnop\",\"\\n\"]",
+        &[
+            Some("abcdefghijklmno"),
+            Some("abcdefghijklmnop"),
+            Some("\n"),
+        ],
+    );
+    check_array(
+        &rt,
+        b"[\"a\",\"b\",0,\"c\"]",
+        &[Some("a"), Some("b"), None, Some("c")],
+    );
+}
+
+// Asserts for what each of these is refused, if for anything.
+fn check_refused(rt: &(impl Abort + AllocGlobal), wanted: Option<ReadError>, texts: &[&[u8]]) {
+    for &bytes in texts {
+        check_eq(rt, refusal(rt.alloc(), bytes), wanted);
+    }
+}
+
+#[test]
+fn plain_texts_keep_to_the_grammar(rt: HostRuntime) {
+    let values: [&[u8]; 12] = [
+        b"\t[ ]\r\n",
+        b" { } ",
+        b"[[],{},[[]]]",
+        b" [ \"a\" , 1 ] ",
+        b"{ \"a\" : [ \"b\" ] , \"c\" : { \"d\" : null } }",
+        b"[0,-1,1.5,1e3,-0.0E-0,18446744073709551616]",
+        b"[true,false,null]",
+        b"[\"\x7f\",\"\xe6\x9c\xa8\"]",
+        b"\"\"",
+        b"[\"\\u0000\"]",
+        b"[{\"\":\"\"},\"\"]",
+        b"{\"a\":1,\"a\":[]}",
+    ];
+    check_refused(&rt, None, &values);
+    let faults: [&[u8]; 24] = [
+        b" ",
+        b"[\"a\",]",
+        b"[,\"a\"]",
+        b"[\"a\",,\"b\"]",
+        b"[\"a\" \"b\"]",
+        b"[\"a\":\"b\"]",
+        b"[\"a\"",
+        b"[\"a",
+        b"[\"a\"]]",
+        b"[\"a\"] 1",
+        b"[\"a\"}",
+        b"[1}",
+        b"[01]",
+        b"[1.]",
+        b"[-]",
+        b"[1e]",
+        b"[tru]",
+        b"[nulll]",
+        b"[1\"a\"]",
+        b"[\"a\"1]",
+        b"{\"a\"}",
+        b"{\"a\":1,}",
+        b"{\"a\":1 \"b\":2}",
+        b"{1:2}",
+    ];
+    check_refused(&rt, Some(ReadError::NotJson), &faults);
+}
+
+#[test]
+fn last_of_two_plain_members_counts(rt: HostRuntime) {
+    let mut scratch = Scratch::new(rt.alloc());
+    let object = read(rt.alloc(), b"{\"a\":1,\"b\":0,\"a\":2}", &mut scratch).expect(
+        &rt, "a value",
+    );
+    let number = member(&object, "a").expect(&rt, "a number");
+    check_eq(&rt, whole(number), Some(2));
+}
+
+// Objects within one another.
+fn nested_objects(alloc: Global, depth: usize) -> Result<Vec<u8>, AllocError> {
+    let mut bytes = Vec::new(alloc);
+    for _ in 0..depth {
+        bytes.extend_from_slice(b"{\"\":")?;
+    }
+    bytes.extend_from_slice(b"0")?;
+    for _ in 0..depth {
+        bytes.extend_from_slice(b"}")?;
+    }
+    Ok(bytes)
+}
+
+#[test]
+fn objects_nest_127_deep(rt: HostRuntime) {
+    for depth in 126..130 {
+        let bytes = nested_objects(rt.alloc(), depth).expect(&rt, "memory");
+        let wanted = if depth <= 127 {
+            None
+        } else {
+            Some(ReadError::NotJson)
+        };
+        check_eq(&rt, refusal(rt.alloc(), &bytes), wanted);
+    }
 }

@@ -2,7 +2,7 @@ use Rattle.std.proofs.Common.{ℕ, ◌<◌, List, [], ◌∷◌, length, true≢
 use Rattle.std.specs.Prelude.{IsTrue}
 use Rattle.json.specs.Lex.{lex, punctuate, tokens}
 use Rattle.json.specs.Reads.{opens}
-use Rattle.vm_json.proofs.reading.read_json.Goals as goal
+use Rattle.vm_json.proofs.reading.read_tokens.Goals as goal
 
 some_text : (text : List ℕ) → IsTrue (opens (tokens text)) → 0 < length text
 unfolding lex punctuate
