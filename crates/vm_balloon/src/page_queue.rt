@@ -9,14 +9,14 @@ use crate::buffers::Buffers;
 use crate::virtio::{page_count, page_number};
 use std::alloc::{AllocError, Global};
 use std::marker::Model;
-use vm_pages::PageSet;
+use vm_pages::PageMarks;
 
-/// The page buffers that are posted to one queue, in order, and the set of the guest's pages that they name.
+/// The page buffers that are posted to one queue, in order, and marks on those of the guest's pages that they name.
 #[derive(Drop)]
 pub(crate) struct PageQueue {
     size: u32,
     buffers: Buffers,
-    named: PageSet,
+    named: PageMarks,
 }
 
 impl Model for PageQueue {
@@ -41,7 +41,7 @@ impl PageQueue {
         Ok(PageQueue {
             size,
             buffers: Buffers::new(alloc, room)?,
-            named: PageSet::new(alloc, size)?,
+            named: PageMarks::new(alloc, size)?,
         })
     }
 
@@ -95,7 +95,7 @@ impl PageQueue {
 
 // Marks the pages that a buffer names.
 #[tactic(auto, using(crate::proofs::VirtioLemmas::map_numbered_more))]
-fn mark_pages(bytes: &[u8], size: u32, named: &mut PageSet)
+fn mark_pages(bytes: &[u8], size: u32, named: &mut PageMarks)
     requires { length named.old ≡ size }
     ensures { named.new ≡ insert_all named.old (page_numbers bytes.now) }
 {
@@ -105,7 +105,7 @@ fn mark_pages(bytes: &[u8], size: u32, named: &mut PageSet)
 }
 
 // Takes the marks of all buffers away.
-fn unmark_all(buffers: &[Buffer], size: u32, named: &mut PageSet)
+fn unmark_all(buffers: &[Buffer], size: u32, named: &mut PageMarks)
     requires { length named.old ≡ size }
     ensures { named.new ≡ remove_all named.old (numbers_in buffers.now) }
 {
@@ -116,7 +116,7 @@ fn unmark_all(buffers: &[Buffer], size: u32, named: &mut PageSet)
 
 // Takes the marks of the pages away that a buffer names.
 #[tactic(auto, using(crate::proofs::VirtioLemmas::map_numbered_more))]
-fn unmark_pages(bytes: &[u8], size: u32, named: &mut PageSet)
+fn unmark_pages(bytes: &[u8], size: u32, named: &mut PageMarks)
     requires { length named.old ≡ size }
     ensures pages { named.new ≡ remove_all named.old (page_numbers bytes.now) }
     ensures size { length named.new ≡ size }
@@ -127,7 +127,7 @@ fn unmark_pages(bytes: &[u8], size: u32, named: &mut PageSet)
 }
 
 // Marks a page, if it is the guest's.
-fn mark(page: u32, size: u32, named: &mut PageSet)
+fn mark(page: u32, size: u32, named: &mut PageMarks)
     requires { length named.old ≡ size }
     ensures pages { named.new ≡ insert named.old page }
     ensures size { length named.new ≡ size }
@@ -138,7 +138,7 @@ fn mark(page: u32, size: u32, named: &mut PageSet)
 }
 
 // Takes the mark of a page away, if it is the guest's.
-fn unmark(page: u32, size: u32, named: &mut PageSet)
+fn unmark(page: u32, size: u32, named: &mut PageMarks)
     requires { length named.old ≡ size }
     ensures pages { named.new ≡ remove named.old page }
     ensures size { length named.new ≡ size }

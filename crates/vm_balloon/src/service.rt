@@ -1,8 +1,8 @@
 ghost use Rattle.std.specs.Prelude.{◌≡◌, ◌+◌, ◌*◌, ◌<◌, ◌≤◌, [], ◌∷◌, ◌++◌, All, length, vec_len};
-ghost use Rattle.std.specs.Bool.{OnTrue};
+ghost use Rattle.std.specs.Bool.{OnTrue, OnFalse};
 ghost use Rattle.std.specs.Vec.{vec_capacity};
 ghost use Rattle.vm_balloon.specs.Room.{HasRoomFor, KeepsRoom};
-ghost use Rattle.vm_pages.specs.Pages.{no_pages, insert_all, remove_all};
+ghost use Rattle.vm_pages.specs.Pages.{no_pages, insert, remove, insert_all, remove_all};
 ghost use Rattle.vm_balloon.specs.Service.{numbers_in, ragged, can_inflate, can_deflate, inflated_by, deflated_by};
 ghost use Rattle.vm_balloon.specs.Virtio.{page_numbers};
 ghost use Rattle.vm_balloon.specs.DeviceFields.{AreListed};
@@ -25,8 +25,7 @@ pub(crate) fn inflate(numbers: &[u32], size: u32, balloon: &mut PageSet, inflate
     inflated.clear();
     for number in numbers {
         let page = *number;
-        if can_inflate(size, balloon, page) {
-            balloon.insert(page);
+        if inflate_page(size, balloon, page) {
             push_within(inflated, page);
         }
     }
@@ -54,29 +53,40 @@ pub(crate) fn deflate(
     deflated.clear();
     for number in numbers {
         let page = *number;
-        if can_deflate(size, balloon, early, page) {
-            balloon.remove(page);
-            early.remove(page);
+        if deflate_page(size, balloon, early, page) {
             push_within(deflated, page);
         }
     }
 }
 
-fn can_inflate(size: u32, balloon: &PageSet, page: u32) -> bool
-    requires { length balloon.now ≡ size }
-    ensures value { result ≡ can_inflate balloon.now page }
-    ensures within { OnTrue result (page < length balloon.now) }
+// Puts a page into the balloon, and says whether it could.
+fn inflate_page(size: u32, balloon: &mut PageSet, page: u32) -> bool
+    requires { length balloon.old ≡ size }
+    ensures value { result ≡ can_inflate balloon.old page }
+    ensures within { OnTrue result (page < length balloon.old) }
+    ensures put { OnTrue result (balloon.new ≡ insert balloon.old page) }
+    ensures same { OnFalse result (balloon.new ≡ balloon.old) }
 {
-    page < size && !balloon.contains(page)
+    page < size && balloon.insert(page)
 }
 
-fn can_deflate(size: u32, balloon: &PageSet, early: &PageSet, page: u32) -> bool
-    requires size { length balloon.now ≡ size }
-    requires same_pages { length early.now ≡ length balloon.now }
-    ensures value { result ≡ can_deflate balloon.now early.now page }
-    ensures within { OnTrue result (page < length balloon.now) }
+// Takes a page out of the balloon and from those used early, and says whether it was in one of the two.
+fn deflate_page(size: u32, balloon: &mut PageSet, early: &mut PageSet, page: u32) -> bool
+    requires size { length balloon.old ≡ size }
+    requires same_pages { length early.old ≡ length balloon.old }
+    ensures value { result ≡ can_deflate balloon.old early.old page }
+    ensures within { OnTrue result (page < length balloon.old) }
+    ensures taken { OnTrue result (balloon.new ≡ remove balloon.old page) }
+    ensures taken_early { OnTrue result (early.new ≡ remove early.old page) }
+    ensures same { OnFalse result (balloon.new ≡ balloon.old) }
+    ensures same_early { OnFalse result (early.new ≡ early.old) }
 {
-    page < size && (balloon.contains(page) || early.contains(page))
+    if page >= size {
+        return false;
+    }
+    let was_ballooned = balloon.remove(page);
+    let was_early = early.remove(page);
+    was_ballooned || was_early
 }
 
 /// Reads the page numbers of page buffers, buffer by buffer, and counts the buffers that end in bytes which are no page number.
@@ -120,18 +130,8 @@ pub(crate) fn clear_listed(list: &mut Vec<u32>, pages: &mut PageSet)
     ensures list { list.new.items ≡ [] }
     ensures room { KeepsRoom list.old list.new }
 {
-    remove_listed(list, pages);
+    pages.remove_all(list);
     list.clear();
-}
-
-// Takes the pages of a list out of a set.
-fn remove_listed(list: &[u32], pages: &mut PageSet)
-    requires { All (λ page. page < length pages.old) list.now }
-    ensures { pages.new ≡ remove_all pages.old list.now }
-{
-    for &page in list {
-        pages.remove(page);
-    }
 }
 
 /// A push for which there is room, so that it takes no memory.

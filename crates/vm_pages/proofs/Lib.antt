@@ -1,5 +1,6 @@
 mod BitLemmas
 mod BlockLemmas
+mod RunLemmas
 mod ExtremeLemmas
 mod WordExtremes
 mod WordLemmas

@@ -2,3 +2,4 @@ pub mod Pages
 pub mod Blocks
 pub mod Words
 pub mod Extremes
+pub mod Runs

@@ -1,10 +1,10 @@
 ghost use Rattle.std.specs.Prelude.{◌≡◌, ◌+◌, ◌*◌, ◌^◌, ◌<◌, ◌≤◌, ◌↔◌, All, [], not, length, reverse, take, sum, slice_index, replicate, vec_capacity, count_ones, IfOk, IsTrue, OnErr};
-ghost use Rattle.vm_pages.specs.Pages.{no_pages, all_pages, contains, insert, remove, count, count_below, members};
+ghost use Rattle.vm_pages.specs.Pages.{no_pages, all_pages, contains, insert, remove, remove_all, count, count_below, members};
 ghost use Rattle.vm_pages.specs.Blocks.{AreCounted};
 ghost use Rattle.vm_pages.specs.Extremes.{greatest_from, least_below};
 ghost use Rattle.vm_pages.specs.Words.{marked};
 
-use crate::words::{WORD_PAGES, is_marked, mark, marks_in, nth_bit, unmark, word_of};
+use crate::words::{WORD_PAGES, is_marked, mark, marks_in, nth_bit, unmark, unmark_run, word_of};
 use std::alloc::{AllocError, Global};
 use std::marker::Model;
 
@@ -21,7 +21,8 @@ const BLOCK_WORDS: usize = BLOCK_PAGES / WORD_PAGES;
 ///
 /// It keeps one bit for each page, 64 to a word, and one count for each block of 2048 pages. So [`PageSet::nth`] passes over the
 /// counts and then over the 32 words of one block, [`PageSet::list_greatest`] and [`PageSet::list_least`] pass over the counts and
-/// over the words of those blocks whose pages they list, and all other calls take constant time.
+/// over the words of those blocks whose pages they list, [`PageSet::remove_all`] takes time for its list, and all other calls take
+/// constant time.
 #[derive(Drop)]
 pub struct PageSet {
     // How many pages are in the set, in front, since mostly no more is looked at.
@@ -43,7 +44,7 @@ impl Model for PageSet {
 }
 
 // So many times the same item. Memory is wanted only for some.
-fn filled<T: Copy>(alloc: Global, count: usize, item: T) -> Result<Vec<T>, AllocError>
+pub(crate) fn filled<T: Copy>(alloc: Global, count: usize, item: T) -> Result<Vec<T>, AllocError>
     ensures items { IfOk result (λ v. v.items ≡ replicate count item) }
     ensures memory { OnErr result (0 < count) }
 {
@@ -124,6 +125,36 @@ impl PageSet {
         self.counts[page / BLOCK_PAGES] -= 1;
         self.len -= 1;
         true
+    }
+
+    /// Takes pages out, in time for their list. It is faster where the pages of a word stand behind one another.
+    pub fn remove_all(&mut self, pages: &[u32])
+        requires { All (λ page. page < length self.old) pages.now }
+        ensures after { self.new ≡ remove_all self.old pages.now }
+        ensures size { length self.new ≡ length self.old }
+    {
+        let mut done = 0;
+        while done < pages.len() {
+            done += self.remove_run(&pages[done..]);
+        }
+    }
+
+    // Takes those pages out that a list begins with and that are of one word, and says how many they are.
+    fn remove_run(&mut self, pages: &[u32]) -> usize
+        requires some { 0 < length pages.now }
+        requires in_range { All (λ page. page < length self.old) pages.now }
+        ensures further { 0 < result }
+        ensures within { result ≤ length pages.now }
+        ensures after { self.new ≡ remove_all self.old (take result pages.now) }
+        ensures size { length self.new ≡ length self.old }
+    {
+        let word = pages[0] / WORD_PAGES as u32;
+        let at = word as usize;
+        let (run, marks, lost) = unmark_run(self.words[at], word, pages);
+        self.words[at] = marks;
+        self.counts[at / BLOCK_WORDS] -= lost as u32;
+        self.len -= lost as u32;
+        run
     }
 
     /// Whether a page is in the set.

@@ -1,8 +1,9 @@
 // Pages that are marked by a bit each, 64 to a word.
-ghost use Rattle.std.specs.Prelude.{◌≡◌, ℕ, ◌+◌, ◌-◌, ◌*◌, ◌/◌, ◌%◌, ◌^◌, ◌<◌, ◌≤◌, length, min, slice_index, count_ones};
+ghost use Rattle.std.specs.Prelude.{◌≡◌, ℕ, ◌+◌, ◌-◌, ◌*◌, ◌/◌, ◌%◌, ◌^◌, ◌<◌, ◌≤◌, All, length, min, take, slice_index, count_ones};
 ghost use Rattle.std.specs.Int.{bit_at};
 ghost use Rattle.vm_pages.specs.Pages.{insert, remove, count, count_below};
 ghost use Rattle.vm_pages.specs.Words.{is_marked, marked};
+ghost use Rattle.vm_pages.specs.Runs.{bits_lost, without_bits};
 
 pub(crate) const WORD_PAGES: usize = 64;
 
@@ -30,6 +31,28 @@ pub(crate) fn unmark(words: &mut [u64], page: usize)
     ensures length { length words.new ≡ length words.old }
 {
     words[page / WORD_PAGES] &= !(1 << (page % WORD_PAGES));
+}
+
+// Takes those pages of a word that a list begins with out of its marks, all of them before the word is written. Answers how many pages
+// they are, the marks that are left, and how many went.
+pub(crate) fn unmark_run(marks: u64, word: u32, pages: &[u32]) -> (usize, u64, usize)
+    ensures within { result.0 ≤ length pages.now }
+    ensures further { 0 < length pages.now → slice_index pages.now 0 / 64 ≡ word → 0 < result.0 }
+    ensures same_word { All (λ page. page / 64 ≡ word) (take result.0 pages.now) }
+    ensures marks { result.1 ≡ without_bits marks (take result.0 pages.now) }
+    ensures lost { result.2 ≡ bits_lost marks (take result.0 pages.now) }
+{
+    let mut left = marks;
+    let mut lost = 0;
+    for (run, &page) in pages.iter().enumerate() {
+        if page / WORD_PAGES as u32 != word {
+            return (run, left, lost);
+        }
+        let place = page % WORD_PAGES as u32;
+        lost += (left >> place & 1) as usize;
+        left &= !(1 << place);
+    }
+    (pages.len(), left, lost)
 }
 
 // Passes over words from `first` on, up to that of the marked page before which `k` marked ones stand there. Answers that word, and how

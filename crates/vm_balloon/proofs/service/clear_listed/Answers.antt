@@ -5,6 +5,6 @@ use Rattle.vm_balloon.proofs.service.clear_listed.Goals as goal
 
 pub returns-clause-pages : goal.returns-clause-pages
 returns-clause-pages c =
-    c.remove_listed.ensures
+    c.remove_all.ensures.after
     ∙ ap (remove_all c.args.pages.now) c.deref.ensures.value
     ∙ remove_all-covered c.args.pages.now c.args.list.now.items c.requires.covered
