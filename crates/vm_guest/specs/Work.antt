@@ -1,5 +1,5 @@
 -- How much work a guest's next epoch is, by what can be seen before it: an estimate, in steps that find their pages in.
-use Rattle.std.specs.Prelude.{ℕ, ◌+◌, ◌-◌, ◌*◌, ◌/◌, Bool, nat_lt, length, max, min, if◌then◌else◌}
+use Rattle.std.specs.Prelude.{ℕ, ◌+◌, ◌-◌, ◌*◌, ◌/◌, length, max, min}
 use Rattle.vm_guest.specs.Memory.{resident, swapped}
 use Rattle.vm_guest.specs.Record.{GuestRecord, ballooned}
 
@@ -7,18 +7,15 @@ use Rattle.vm_guest.specs.Record.{GuestRecord, ballooned}
 abbrev pub steps_ahead : GuestRecord → ℕ
 steps_ahead g = min (length g.config.trace - g.progress.position) g.config.quantum
 
--- more pages of the guest are in its swap area than have a frame, so that most steps page
-abbrev pub is_mostly_out : GuestRecord → Bool
-is_mostly_out g = nat_lt (resident g.memory) (swapped g.memory)
-
--- a step that pages takes as long as about eight
-abbrev pub weight : GuestRecord → ℕ
-weight g = if is_mostly_out g then 8 else 1
+-- how many steps more they count for because some page: a step that pages takes as long as about eight, and as many of them do as of
+-- the guest's pages, beside those that it never touched, are in its swap area
+abbrev pub paging_ahead : GuestRecord → ℕ
+paging_ahead g = 7 * steps_ahead g * swapped g.memory / max 1 (resident g.memory + swapped g.memory)
 
 -- how many pages its driver puts into the balloon or takes out of it, at most
 abbrev pub pages_ahead : GuestRecord → ℕ
 pages_ahead g = min g.config.rate (max g.device.num_pages (ballooned g) - min g.device.num_pages (ballooned g))
 
--- the steps, the draws of the sampler, of which about eight take as long as a step, and the driver's pages
+-- the steps, those that page, the draws of the sampler, of which about eight take as long as a step, and the driver's pages
 abbrev pub work_ahead : GuestRecord → ℕ
-work_ahead g = steps_ahead g * weight g + steps_ahead g * g.config.samples / (8 * g.config.period) + pages_ahead g
+work_ahead g = steps_ahead g + paging_ahead g + steps_ahead g * g.config.samples / (8 * g.config.period) + pages_ahead g

@@ -1,11 +1,11 @@
 // How much work a guest's next epoch is.
-ghost use Rattle.std.specs.Prelude.{◌≡◌, ◌≤◌};
+ghost use Rattle.std.specs.Prelude.{◌≡◌, ◌*◌, ◌/◌, ◌^◌, ◌<◌, ◌≤◌, max};
 ghost use Rattle.vm_guest.specs.Parts.{record_of, IsFit};
-ghost use Rattle.vm_guest.specs.Work.{pages_ahead, steps_ahead, weight, work_ahead};
+ghost use Rattle.vm_guest.specs.Work.{pages_ahead, paging_ahead, steps_ahead, work_ahead};
 
 use crate::parts::GuestParts;
 
-// How many steps that page take as long as one that does not.
+// How many steps take as long as one that pages.
 const PAGING_STEPS: u64 = 8;
 
 // How many draws of the sampler take as long as a step.
@@ -21,16 +21,26 @@ fn steps_ahead(parts: &GuestParts) -> u64
     left.min(u64::from(parts.spec.quantum))
 }
 
-// How much a step counts for.
-fn weight(parts: &GuestParts) -> u64
-    ensures weight { result ≡ weight (record_of parts.now) }
-    ensures few { result ≤ 8 }
+// How many steps more they count for because some of them page.
+fn paging_ahead(parts: &GuestParts) -> u64
+    requires fit { IsFit parts.now }
+    ensures paging { result ≡ paging_ahead (record_of parts.now) }
+    ensures few { result ≤ 7 * 65536 }
 {
-    if parts.memory.resident() < parts.memory.swapped() {
-        PAGING_STEPS
-    } else {
-        1
-    }
+    let swapped = u64::from(parts.memory.swapped());
+    let touched = u64::from(parts.memory.resident()) + swapped;
+    part_of((PAGING_STEPS - 1) * steps_ahead(parts), swapped, touched)
+}
+
+// Such a part of some steps.
+fn part_of(steps: u64, part: u64, whole: u64) -> u64
+    requires few { steps ≤ 7 * 65536 }
+    requires part { part ≤ whole }
+    requires fits { whole < 2 ^ 33 }
+    ensures value { result ≡ steps * part / max 1 whole }
+    ensures few { result ≤ steps }
+{
+    steps * part / whole.max(1)
 }
 
 // The pages that the driver moves.
@@ -58,5 +68,5 @@ pub(crate) fn work_ahead(parts: &GuestParts) -> u64
     }
     let draws = steps * u64::from(parts.spec.samples);
     let drawn = draws / (DRAWS_OF_A_STEP * u64::from(parts.spec.period));
-    steps * weight(parts) + drawn + pages_ahead(parts)
+    steps + paging_ahead(parts) + drawn + pages_ahead(parts)
 }
