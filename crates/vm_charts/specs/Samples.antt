@@ -47,3 +47,8 @@ target_in view = option_map (λ g. g.target) view
 
 abbrev pub targets : Row → List (Option ℕ)
 targets row = map target_in row.views
+
+-- the greatest target of all guests in all rows, or 0
+abbrev pub greatest_target : List Row → ℕ
+greatest_target [] = 0
+greatest_target (row ∷ rows) = max (greatest (targets row)) (greatest_target rows)

@@ -1,5 +1,5 @@
 // The charts of a run.
-ghost use Rattle.std.specs.Prelude.{◌≡◌, ◌<◌, ◌≤◌, ◌++◌, ◌∷◌, [], codes, map, string_bytes, OnOk, IfOk};
+ghost use Rattle.std.specs.Prelude.{◌≡◌, ◌<◌, ◌≤◌, ◌++◌, ◌∷◌, [], codes, map, max, string_bytes, OnOk, IfOk};
 ghost use Rattle.vm_series.specs.Csv.{name_at};
 ghost use Rattle.vm_charts.specs.Charts.{Draws, Shows, free_chart, graph, named_curve, page_chart, state_chart, target_chart, target_curve, told, Drawn};
 ghost use Rattle.vm_charts.specs.Samples.{greatest, samples};
@@ -302,16 +302,23 @@ fn add_heading(
     add_words(alloc, elements, Style::Plain, LEFT, 58, words.as_str())
 }
 
+// The greatest value of the chart of the pages.
+fn greatest_pages(pages: &PageSamples) -> u64
+    ensures { result ≡ max (greatest pages.now.swapped.items) (greatest pages.now.ballooned.items) }
+{
+    let swapped = greatest(pages.swapped.as_slice());
+    let ballooned = greatest(pages.ballooned.as_slice());
+    swapped.max(ballooned)
+}
+
 // The chart of the pages, below the legend of the guests that ever run.
 fn page_scale(pages: &PageSamples, guests: u64) -> Chart
     ensures swapped { greatest pages.now.swapped.items ≤ result.top }
     ensures ballooned { greatest pages.now.ballooned.items ≤ result.top }
 {
-    let swapped = greatest(pages.swapped.as_slice());
-    let ballooned = greatest(pages.ballooned.as_slice());
     let lines = guests / 4 + u64::from(!guests.is_multiple_of(4));
     let base = lines.saturating_mul(24).saturating_add(1022);
-    Chart::reaching(base, swapped.max(ballooned))
+    Chart::reaching(base, greatest_pages(pages))
 }
 
 fn picture_of(alloc: Global, series: &Series) -> Result<Picture, AllocError>

@@ -2,7 +2,7 @@
 ghost use Rattle.std.specs.Prelude.{◌≡◌, ◌≤◌, ℕ, is_some, max, IfOk};
 ghost use Rattle.std.specs.List.{list_any};
 ghost use Rattle.vm_plan.specs.State.{rank};
-ghost use Rattle.vm_charts.specs.Samples.{greatest, pages_in, pages_of, sample, samples, target_in, targets, total};
+ghost use Rattle.vm_charts.specs.Samples.{greatest, greatest_target, pages_in, pages_of, sample, samples, target_in, targets, total};
 ghost use Rattle.vm_charts.specs.declared.samples.Measure.TheVariants.{Target};
 
 use std::alloc::{AllocError, Global};
@@ -140,7 +140,8 @@ fn greatest_in_row(row: &EpochRow, most: u64) -> u64
 
 // The greatest target of all guests, row by row, since the views of a row lie side by side.
 pub(crate) fn greatest_target(rows: &[EpochRow]) -> u64
-    ensures { (position : ℕ) → greatest (samples (Target position) rows.now) ≤ result }
+    ensures is { result ≡ greatest_target rows.now }
+    ensures bounds { (position : ℕ) → greatest (samples (Target position) rows.now) ≤ result }
 {
     let mut most = 0;
     for row in rows {

@@ -1,8 +1,11 @@
-use Rattle.std.proofs.Common.{rules}
-use Rattle.vm_charts.proofs.SampleLemmas.{row_more}
+use Rattle.std.proofs.Common.{◌≡◌, ◌≤◌, length, arith}
+use Rattle.vm_charts.specs.Samples.{greatest_target}
+use Rattle.vm_charts.proofs.SampleLemmas.{after_last, at_most_greatest_target}
 use Rattle.vm_charts.proofs.samples.greatest_target.Goals as goal
 
-pub loop-row-preserved : goal.loop-row-preserved
-loop-row-preserved c position =
-    row_more position c.args.rows.now c.loop-row.row-index c.row-item.result _ c.loop-row.most c.greatest_in_row-most.result (search rules) c.row-item.is
-    (c.loop-row.invariant position) c.greatest_in_row-most.ensures
+pub returns-clause-bounds : goal.returns-clause-bounds
+returns-clause-bounds c position =
+    let rows = c.args.rows.now in
+    let behind : length rows ≤ c.loop-row.row-index = omega (arith, c.loop-row-test.false, c.loop-row.auto.row-index-end) in
+    let is : c.loop-row.most ≡ greatest_target rows = after_last rows c.loop-row.most c.loop-row.row-index behind c.loop-row.invariant in
+    omega (arith, is, at_most_greatest_target position rows)
