@@ -3,6 +3,7 @@ mod command_line;
 mod ends;
 mod hosts;
 mod limits;
+mod marks;
 mod series;
 mod setup;
 mod system;

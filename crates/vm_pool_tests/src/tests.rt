@@ -226,28 +226,41 @@ fn frames_move_and_add_up(rt: HostRuntime) -> Result<(), Fail> {
 }
 
 // Where guests wait for it, one that holds more than its target may not run.
-#[test]
-fn a_guest_above_its_target_waits(rt: HostRuntime) -> Result<(), Fail> {
-    let mut pool = two_guests(&rt, 1)?;
-    start(&rt, &mut pool, 0);
-    start(&rt, &mut pool, 1);
-    grant(&rt, &mut pool, 0, 2);
-    set_cap(&rt, &mut pool, 0, 5);
-    check_frames(&rt, &pool, (5, 6), 8);
+fn check_blocked_epoch(
+    rt: &(impl AllocGlobal + Abort + Threads + Sync),
+    gate: &(impl Gate + Sync),
+) -> Result<(), Fail> {
+    let mut pool = two_guests(rt, 1)?;
+    start(rt, &mut pool, 0);
+    start(rt, &mut pool, 1);
+    grant(rt, &mut pool, 0, 2);
+    set_cap(rt, &mut pool, 0, 5);
+    check_frames(rt, &pool, (5, 6), 8);
     pool.order_all(true);
     check_eq(
-        &rt,
+        rt,
         (is_blocked(&pool, 0), is_blocked(&pool, 1)),
         (Some(true), Some(false)),
     );
-    run(&rt, &Open, 2, &mut pool);
-    check_eq(&rt, (done(&pool, 0), pool.free()), (Some(0), 9));
+    run(rt, gate, 2, &mut pool);
+    check_eq(rt, (done(&pool, 0), pool.free()), (Some(0), 9));
     pool.order_all(true);
-    check_blocked(&rt, &pool, false);
-    run(&rt, &Open, 2, &mut pool);
-    check_eq(&rt, done(&pool, 0), Some(1));
+    check_blocked(rt, &pool, false);
+    run(rt, gate, 2, &mut pool);
+    check_eq(rt, done(&pool, 0), Some(1));
     pool.close();
     Ok(())
+}
+
+#[test]
+fn a_guest_above_its_target_waits(rt: HostRuntime) -> Result<(), Fail> {
+    check_blocked_epoch(&rt, &Open)
+}
+
+// The same where the gate may wait, so that each epoch is a round on threads.
+#[test]
+fn a_guest_above_its_target_waits_in_a_round(rt: HostRuntime) -> Result<(), Fail> {
+    check_blocked_epoch(&rt, &no_passages())
 }
 
 // Of three frames granted at once, two are there above the old target, and one comes from those that are free.
@@ -430,28 +443,41 @@ fn one_ticket_at_a_time(rt: HostRuntime) -> Result<(), Fail> {
 }
 
 // A guest beside one that is stopped runs as ever, and its memory is shown.
-#[test]
-fn the_others_wait(rt: HostRuntime) -> Result<(), Fail> {
-    let mut pool = two_guests(&rt, 0)?;
-    start(&rt, &mut pool, 0);
-    run(&rt, &Open, 64, &mut pool);
-    run(&rt, &Open, 1, &mut pool);
+fn check_one_runs(
+    rt: &(impl AllocGlobal + Abort + Threads + Sync),
+    gate: &(impl Gate + Sync),
+) -> Result<(), Fail> {
+    let mut pool = two_guests(rt, 0)?;
+    start(rt, &mut pool, 0);
+    run(rt, gate, 64, &mut pool);
+    run(rt, gate, 1, &mut pool);
     let read = PageRead {
         page: 0,
         offset: 0,
         bytes: Bytes::from_slice(&[0x0a, 0]),
     };
-    check_eq(&rt, pool.reads(0), Some([read].as_slice()));
-    check_eq(&rt, (pool.reads(1), done(&pool, 0)), (None, Some(2)));
+    check_eq(rt, pool.reads(0), Some([read].as_slice()));
+    check_eq(rt, (pool.reads(1), done(&pool, 0)), (None, Some(2)));
     let mut bytes = [7; 4096];
-    check_eq(&rt, pool.peek(0, 0, &mut bytes) && bytes[0] == 0x0a, true);
+    check_eq(rt, pool.peek(0, 0, &mut bytes) && bytes[0] == 0x0a, true);
     check_eq(
-        &rt,
+        rt,
         !pool.peek(0, 8, &mut bytes) && !pool.peek(1, 0, &mut bytes),
         true,
     );
     pool.close();
     Ok(())
+}
+
+#[test]
+fn the_others_wait(rt: HostRuntime) -> Result<(), Fail> {
+    check_one_runs(&rt, &Open)
+}
+
+// The same where the gate may wait, so that the first epoch is a round on threads.
+#[test]
+fn the_others_wait_in_a_round(rt: HostRuntime) -> Result<(), Fail> {
+    check_one_runs(&rt, &no_passages())
 }
 
 // Starts a guest that can start, and tells whether there was memory for it.

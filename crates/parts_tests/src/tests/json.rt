@@ -191,7 +191,7 @@ fn check_refused(rt: &(impl Abort + AllocGlobal), wanted: Option<ReadError>, tex
 }
 
 #[test]
-fn plain_texts_keep_to_the_grammar(rt: HostRuntime) {
+fn plain_values_are_read(rt: HostRuntime) {
     let values: [&[u8]; 12] = [
         b"\t[ ]\r\n",
         b" { } ",
@@ -207,6 +207,10 @@ fn plain_texts_keep_to_the_grammar(rt: HostRuntime) {
         b"{\"a\":1,\"a\":[]}",
     ];
     check_refused(&rt, None, &values);
+}
+
+#[test]
+fn plain_texts_keep_to_the_grammar(rt: HostRuntime) {
     let faults: [&[u8]; 24] = [
         b" ",
         b"[\"a\",]",
@@ -234,6 +238,54 @@ fn plain_texts_keep_to_the_grammar(rt: HostRuntime) {
         b"{1:2}",
     ];
     check_refused(&rt, Some(ReadError::NotJson), &faults);
+}
+
+// How an array is kept.
+#[derive(Clone, Copy, Debug, PartialEq)]
+enum Form {
+    Texts(usize),
+    Values(usize),
+}
+
+fn form_of(value: &Value<'_>) -> Option<Form> {
+    match value {
+        Value::Texts(texts) => Some(Form::Texts(texts.len())),
+        Value::Array(values) => Some(Form::Values(values.len())),
+        _ => None,
+    }
+}
+
+// How the array under "a" is kept in this object, beside a text under "b".
+fn form_beside(alloc: Global, array: &str, text: &str) -> Result<Option<Form>, ReadError> {
+    let bytes = format!(in alloc; "{{\"a\":{array},\"b\":\"{text}\"}}")?;
+    let mut scratch = Scratch::new(alloc);
+    let object = read(alloc, bytes.as_bytes(), &mut scratch)?;
+    Ok(member(&object, "a").and_then(form_of))
+}
+
+// Asserts how these arrays are kept. An escape beside one makes no difference.
+fn check_kept(rt: &(impl Abort + AllocGlobal), wanted: Form, arrays: &[&str]) {
+    for &array in arrays {
+        for text in ["b", "\\u0062"] {
+            let found = form_beside(rt.alloc(), array, text);
+            check_eq(rt, (array, text, found), (array, text, Ok(Some(wanted))));
+        }
+    }
+}
+
+#[test]
+fn arrays_of_texts_alone_are_kept_as_texts(rt: HostRuntime) {
+    check_kept(&rt, Form::Texts(0), &["[]", "[ ]"]);
+    check_kept(&rt, Form::Texts(1), &["[\"\"]", "[ \"a\" ]"]);
+    check_kept(&rt, Form::Texts(3), &["[\"a\",\"b\",\"a\"]"]);
+    check_kept(&rt, Form::Values(1), &["[1]", "[[]]", "[{}]", "[null]"]);
+    check_kept(
+        &rt,
+        Form::Values(2),
+        &["[\"a\",1]", "[1,\"a\"]", "[\"a\",[]]"],
+    );
+    let mixed = ["[\"a\",\"b\",1]", "[\"a\",1,\"b\"]", "[1,\"a\",\"b\"]"];
+    check_kept(&rt, Form::Values(3), &mixed);
 }
 
 #[test]

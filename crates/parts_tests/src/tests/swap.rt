@@ -132,3 +132,33 @@ fn greatest_area(rt: HostRuntime) {
     check_page(&rt, &area, 262143, 9);
     check_eq(&rt, area.zero_page(0), false);
 }
+
+// Makes room for so many pages more. Those that are there stay: each has this byte at a place of its own.
+fn check_grows(rt: &impl Abort, area: &mut SwapArea, more: u32)
+    requires { more < 1000 }
+{
+    assert!(rt; area.capacity() < 1000);
+    let wanted = area.capacity() + more;
+    area.grow(more).expect(rt, "memory");
+    check_sizes(rt, area, 2, wanted);
+    check_byte(rt, area, 7, 5, 3);
+    check_byte(rt, area, 262143, 4095, 4);
+}
+
+// Two pages of few bytes. They move to other memory where an eighth of what comes more has room for them, and else they don't.
+#[test]
+#[tactic(auto, using(vm_frames::proofs::NumberSets::set_members))]
+fn pages_of_few_bytes_stay_where_an_area_grows(rt: HostRuntime) {
+    let mut machine = Machine::new(rt.alloc(), 1).expect(&rt, "memory");
+    let mut area = SwapArea::new(rt.alloc(), 8).expect(&rt, "memory");
+    let mut frame = PatchedFrame::new(machine.take().expect(&rt, "a free frame"));
+    frame.write(5, &[3]);
+    area.trade(0, 7, &mut frame);
+    frame.write(4095, &[4]);
+    area.trade(0, 262143, &mut frame);
+    for more in [0, 1, 15, 16, 17, 64] {
+        check_grows(&rt, &mut area, more);
+    }
+    machine.give(frame.release());
+    close_machine(&rt, machine, 1);
+}

@@ -2,7 +2,9 @@
 use super::{check_eq, check_words};
 use std::alloc::{AllocError, Global};
 use std::process::Abort;
-use vm_trace::{Action, Bytes, PushError, Queue, Trace, TraceError, parse_step, parse_step_within};
+use vm_trace::{
+    Action, Bytes, PushError, Queue, StepKind, Trace, TraceError, parse_step, parse_step_within,
+};
 
 // Asserts that each of these texts has this as its first fault.
 fn check_faults(rt: &impl Abort, fault: TraceError, texts: &[&str]) {
@@ -175,6 +177,43 @@ fn traces_keep_the_bytes_of_each_step(rt: HostRuntime) {
     };
     let step = trace.step(3).expect(&rt, "a step");
     check_eq(&rt, step.action(), last_byte);
+}
+
+// Asserts what the step at a place does, and which bytes it brings along.
+fn check_kind(
+    rt: &impl Abort,
+    trace: &Trace,
+    place: usize,
+    wanted: Option<StepKind>,
+    bytes: &[u8],
+) {
+    check_eq(rt, trace.kind(place), wanted);
+    check_eq(rt, trace.bytes(place), bytes);
+}
+
+#[test]
+fn steps_are_told_without_their_bytes(rt: HostRuntime) {
+    let texts = [
+        "w 262143 4080 fffe",
+        "r 1 4080 16",
+        "p s 000102",
+        "f 2",
+        "i",
+    ];
+    let mut trace = Trace::new(rt.alloc());
+    check_steps(&rt, &mut trace, &texts);
+    let (page, offset) = (262143, 4080);
+    let write = StepKind::Write { page, offset };
+    check_kind(&rt, &trace, 0, Some(write), &[0xff, 0xfe]);
+    let (page, len) = (1, 16);
+    let read = StepKind::Read { page, offset, len };
+    check_kind(&rt, &trace, 1, Some(read), &[]);
+    let queue = Queue::Stats;
+    let post = StepKind::Post { queue };
+    check_kind(&rt, &trace, 2, Some(post), &[0, 1, 2]);
+    check_kind(&rt, &trace, 3, Some(StepKind::Free { page: 2 }), &[]);
+    check_kind(&rt, &trace, 4, Some(StepKind::Idle), &[]);
+    check_kind(&rt, &trace, 5, None, &[]);
 }
 
 // Asserts that a text adds this step to a trace of a guest with 65536 pages.

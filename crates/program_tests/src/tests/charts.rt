@@ -13,12 +13,12 @@ fn drawn(rt: &(impl Abort + AllocGlobal + Threads + Sync), config: &str) -> Stri
 }
 
 // Asserts that a piece stands in a drawing.
-fn assert_shows(rt: &impl Abort, svg: &String, piece: &str) {
+pub(super) fn assert_shows(rt: &impl Abort, svg: &String, piece: &str) {
     assert!(rt; svg.as_str().contains(piece), "{piece}");
 }
 
 // Asserts how often a piece stands in a drawing.
-fn assert_count(rt: &impl Abort, svg: &String, piece: &str, wanted: usize) {
+pub(super) fn assert_count(rt: &impl Abort, svg: &String, piece: &str, wanted: usize) {
     assert_eq!(rt; svg.as_str().matches(piece).count(), wanted, "{piece}");
 }
 

@@ -1,8 +1,10 @@
 // The greatest number of domains, and of a domain's pages.
-use super::setup::{assert_bytes, assert_fault, fault, fault_of, text, with_room};
+use super::setup::{Silent, assert_bytes, assert_fault, fault, fault_of, text, with_room};
 use std::alloc::{AllocError, Global};
+use std::process::Abort;
 use std::test::Fail;
-use vm_sim::{Open, run};
+use std::thread::Threads;
+use vm_sim::{Gate, Open, run};
 
 const DOMAINS: u32 = 256;
 
@@ -61,18 +63,32 @@ fn tell_all(report: &mut String) -> Result<(), AllocError> {
     report.push_str("machine 300 held 256 free 44 overhead 0\n")
 }
 
-#[test]
-fn all_256_domains_run(rt: HostRuntime) -> Result<(), Fail> {
+// Asserts that all of them run through this gate, on as many workers as there may be.
+fn assert_all_run(
+    rt: &(impl Abort + AllocGlobal + Threads + Sync),
+    gate: &(impl Gate + Sync),
+) -> Result<(), Fail> {
     let alloc = rt.alloc();
     let config = many_domains(alloc)?;
     let mut report = String::new(alloc);
     tell_all(&mut report)?;
     let mut writer = with_room(alloc, 100_000);
     let mut reader = text(config.as_bytes());
-    let outcome = run(&rt, alloc, &Open, 64, &mut reader, &mut writer);
-    assert_fault(&rt, fault_of(outcome), None);
-    assert_bytes(&rt, writer.held.as_slice(), report.as_bytes());
+    let outcome = run(rt, alloc, gate, 64, &mut reader, &mut writer);
+    assert_fault(rt, fault_of(outcome), None);
+    assert_bytes(rt, writer.held.as_slice(), report.as_bytes());
     Ok(())
+}
+
+#[test]
+fn all_256_domains_run(rt: HostRuntime) -> Result<(), Fail> {
+    assert_all_run(&rt, &Open)
+}
+
+// The same where the gate may wait, so that the epoch is a round on 64 threads.
+#[test]
+fn all_256_domains_run_on_threads(rt: HostRuntime) -> Result<(), Fail> {
+    assert_all_run(&rt, &Silent)
 }
 
 // The last page of 262144 is the first that goes into the balloon, so the guest waits for it until the next boundary.

@@ -4,7 +4,7 @@ use std::io;
 use std::io::{Error, ErrorKind};
 use std::process::Abort;
 use std::thread::Threads;
-use vm_sim::{Host, Open, RunError, Sink, Source, run};
+use vm_sim::{Gate, Host, Open, RunError, Sink, Source, run};
 
 pub(super) const FIRST_READ: &str =
     "{\"version\":1,\"frames\":100,\"epochs\":1,\"guests\":[{\"name\":\"web\",\"size\":4,\"min\":4,\
@@ -69,6 +69,15 @@ machine 100 held 98 free 0 overhead 2\n";
 pub(super) const STEP_THAT_CANNOT_BE_READ: &str =
     "{\"version\":1,\"frames\":100,\"epochs\":1,\"guests\":[{\"name\":\"web\",\"size\":4,\"min\":4,\
 \"trace\":[\"i\",\"w 0 0 f\"]}]}";
+
+// A gate that does nothing, and does not say that it never waits: so an epoch on two workers or more is a round on threads.
+pub(super) struct Silent;
+
+impl Gate for Silent {
+    fn enter(&self, _number: u32) {}
+
+    fn leave(&self, _number: u32) {}
+}
 
 // A reader that gives these bytes, then so many spaces, and then fails or ends.
 #[derive(Drop)]

@@ -1,8 +1,8 @@
 // Any number of workers.
 use super::setup::{
     FIRST_READ, FIRST_READ_REPORT, FIVE_GUESTS, FIVE_GUESTS_REPORT, LOW_AND_BACK,
-    LOW_AND_BACK_REPORT, OVERHEAD_ADMITTED, OVERHEAD_ADMITTED_REPORT, assert_bytes, assert_fault,
-    assert_fault_in, assert_length, assert_reader_failed, fault_of, text, with_room,
+    LOW_AND_BACK_REPORT, OVERHEAD_ADMITTED, OVERHEAD_ADMITTED_REPORT, Silent, assert_bytes,
+    assert_fault, assert_fault_in, assert_length, assert_reader_failed, fault_of, text, with_room,
 };
 use std::process::Abort;
 use std::sync::atomic::{AtomicU64, Ordering};
@@ -13,17 +13,19 @@ use vm_sim::{Gate, Open, RunError, run};
 // Asserts what so many workers write for a configuration.
 fn assert_report(
     rt: &(impl Abort + AllocGlobal + Threads + Sync),
+    gate: &(impl Gate + Sync),
     workers: u32,
     input: &str,
     report: &str,
 ) {
     let mut writer = with_room(rt.alloc(), 10_000);
     let mut reader = text(input.as_bytes());
-    let outcome = run(rt, rt.alloc(), &Open, workers, &mut reader, &mut writer);
+    let outcome = run(rt, rt.alloc(), gate, workers, &mut reader, &mut writer);
     assert_fault_in(rt, workers as usize, fault_of(outcome), None);
     assert_bytes(rt, writer.held.as_slice(), report.as_bytes());
 }
 
+// Through a gate that never waits epochs of so few steps stay on one thread, and through the other one they are rounds on threads.
 #[test]
 fn reports_are_the_same_for_all_workers(rt: HostRuntime) {
     let examples = [
@@ -33,7 +35,8 @@ fn reports_are_the_same_for_all_workers(rt: HostRuntime) {
     ];
     for workers in [1, 2, 5, 64] {
         for (input, report) in examples {
-            assert_report(&rt, workers, input, report);
+            assert_report(&rt, &Open, workers, input, report);
+            assert_report(&rt, &Silent, workers, input, report);
         }
     }
 }

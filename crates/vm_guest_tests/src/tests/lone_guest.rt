@@ -270,6 +270,11 @@ impl LoneGuest {
         check_eq(rt, self.guest.view().active, active);
     }
 
+    // Asserts how much work the next epoch is.
+    pub(super) fn check_work(&self, rt: &impl Abort, work: u64) {
+        check_eq(rt, self.guest.work_ahead(), work);
+    }
+
     // Asserts how many pages can lie in the swap area.
     pub(super) fn check_reserve(&self, rt: &impl Abort, pages: u32) {
         check_eq(rt, self.guest.reserve(), pages);

@@ -1,0 +1,385 @@
+// The marks and the scales of charts, beside those that come of all samples of each curve.
+ghost use Rattle.std.specs.Prelude.{◌<◌, length};
+
+use super::charts::{assert_count, assert_shows};
+use std::alloc::{AllocError, Global};
+use std::process::Abort;
+use std::test::Fail;
+use std::thread::Threads;
+use vm_charts::svg_text;
+use vm_host::{GuestView, Open};
+use vm_series::{EpochRow, Series, collect_series};
+
+// ---- samples
+
+#[derive(Clone, Copy)]
+enum Pages {
+    SwappedOut,
+    Ballooned,
+}
+
+#[derive(Clone, Copy)]
+enum Measure {
+    Target(usize),
+    Total(Pages),
+}
+
+fn pages_of(pages: Pages, view: &GuestView) -> u32 {
+    match pages {
+        Pages::SwappedOut => view.swapped,
+        Pages::Ballooned => view.balloon,
+    }
+}
+
+fn total(pages: Pages, row: &EpochRow) -> u64 {
+    let mut sum: u64 = 0;
+    for view in row.views() {
+        if let Some(view) = view {
+            sum = sum.saturating_add(u64::from(pages_of(pages, view)));
+        }
+    }
+    sum
+}
+
+fn sample(row: &EpochRow, measure: Measure) -> Option<u64> {
+    match measure {
+        Measure::Target(position) => row.view(position).map(|view| u64::from(view.target)),
+        Measure::Total(pages) => Some(total(pages, row)),
+    }
+}
+
+// A value for each epoch, or none where the guest that is asked for doesn't run.
+fn samples(
+    alloc: Global,
+    rows: &[EpochRow],
+    measure: Measure,
+) -> Result<Vec<Option<u64>>, AllocError> {
+    let mut values = Vec::new(alloc);
+    for row in rows {
+        values.push(sample(row, measure))?;
+    }
+    Ok(values)
+}
+
+fn greatest_of(alloc: Global, rows: &[EpochRow], measure: Measure) -> Result<u64, AllocError> {
+    let values = samples(alloc, rows, measure)?;
+    let mut most: u64 = 0;
+    for value in values.as_slice() {
+        most = most.max(value.unwrap_or(0));
+    }
+    Ok(most)
+}
+
+// The greatest target of the guests before a position.
+fn greatest_target(alloc: Global, rows: &[EpochRow], positions: usize) -> Result<u64, AllocError> {
+    let mut most = 0;
+    for position in 0..positions {
+        most = greatest_of(alloc, rows, Measure::Target(position))?.max(most);
+    }
+    Ok(most)
+}
+
+// How many guests ever run.
+fn guests_of(alloc: Global, rows: &[EpochRow], positions: usize) -> Result<u64, AllocError> {
+    let mut guests: u64 = 0;
+    for position in 0..positions {
+        let values = samples(alloc, rows, Measure::Target(position))?;
+        let runs = values.iter().any(|value| value.is_some());
+        guests = guests.saturating_add(u64::from(runs));
+    }
+    Ok(guests)
+}
+
+// ---- scales
+
+// The least of 1, 2, 5, 10, 20, 50 and so on that is at least as great.
+fn round_step(least: u64) -> u64 {
+    let mut decade: u64 = 1;
+    for _ in 0..19u8 {
+        if decade.saturating_mul(5) >= least {
+            break;
+        }
+        decade = decade.saturating_mul(10);
+    }
+    if decade >= least {
+        decade
+    } else if decade.saturating_mul(2) >= least {
+        decade.saturating_mul(2)
+    } else {
+        decade.saturating_mul(5)
+    }
+}
+
+#[derive(Clone, Copy)]
+struct Chart {
+    base: u64,
+    step: u64,
+    top: u64,
+    ghost has_height: { 0 < top },
+}
+
+fn reaching(base: u64, greatest: u64) -> Chart {
+    let step = round_step(greatest / 5 + u64::from(!greatest.is_multiple_of(5)));
+    let top = step.saturating_mul(5).max(greatest).max(1);
+    Chart { base, step, top }
+}
+
+// The chart of the pages, below the legend of the guests that ever run.
+fn page_scale(alloc: Global, rows: &[EpochRow], guests: u64) -> Result<Chart, AllocError> {
+    let swapped = greatest_of(alloc, rows, Measure::Total(Pages::SwappedOut))?;
+    let ballooned = greatest_of(alloc, rows, Measure::Total(Pages::Ballooned))?;
+    let lines = guests / 4 + u64::from(!guests.is_multiple_of(4));
+    let base = lines.saturating_mul(24).saturating_add(1022);
+    Ok(reaching(base, swapped.max(ballooned)))
+}
+
+// The lines of a scale, with their values.
+fn push_grid(text: &mut String, chart: Chart) -> Result<(), AllocError> {
+    for part in 0..6u64 {
+        let y = chart.base.saturating_sub(part.saturating_mul(40));
+        let below = y.saturating_add(4);
+        let value = chart.step.saturating_mul(part);
+        writeln!(text, "<path class=\"grid\" d=\"M90,{y}H970\"/>")?;
+        writeln!(
+            text,
+            "<text class=\"end\" x=\"82\" y=\"{below}\">{value}</text>"
+        )?;
+    }
+    Ok(())
+}
+
+// ---- marks
+
+fn x_of(epochs: usize, epoch: usize) -> u128
+    requires { 0 < epochs }
+{
+    epoch as u128 * 880 / epochs as u128
+}
+
+fn y_of(top: u64, value: u64) -> u128
+    requires { 0 < top }
+{
+    u128::from(value) * 200 / u128::from(top)
+}
+
+fn is_marked(epochs: usize, epoch: usize, number: u64) -> bool {
+    let stride = (epochs as u64 / 6).max(1);
+    epoch as u64 % stride == number % stride
+}
+
+// The mark of a curve in an epoch, if it has one there.
+fn push_mark(
+    text: &mut String,
+    chart: Chart,
+    number: u64,
+    values: &[Option<u64>],
+    epoch: usize,
+) -> Result<(), AllocError>
+    requires { epoch < length values.now }
+{
+    let epochs = values.len();
+    let Some(value) = values[epoch] else {
+        return Ok(());
+    };
+    if !is_marked(epochs, epoch, number) {
+        return Ok(());
+    }
+    let (left, right) = (x_of(epochs, epoch), x_of(epochs, epoch.saturating_add(1)));
+    let x = (left.saturating_add(right) / 2).saturating_add(90);
+    let y = u128::from(chart.base).saturating_sub(y_of(chart.top, value));
+    let shown = number.saturating_add(1);
+    write!(
+        text,
+        "<circle class=\"mark\" cx=\"{x}\" cy=\"{y}\" r=\"8\"/>"
+    )?;
+    writeln!(
+        text,
+        "<text class=\"number\" x=\"{x}\" y=\"{y}\" dy=\"4\">{shown}</text>"
+    )
+}
+
+// The marks along a curve.
+fn push_marks(
+    text: &mut String,
+    chart: Chart,
+    rows: &[EpochRow],
+    number: u64,
+    measure: Measure,
+) -> Result<(), AllocError> {
+    let values = samples(*text.allocator(), rows, measure)?;
+    for epoch in 0..values.len() {
+        push_mark(text, chart, number, values.as_slice(), epoch)?;
+    }
+    Ok(())
+}
+
+// ---- drawings
+
+// The scale and the marks of the chart of the targets.
+fn target_pieces(alloc: Global, series: &Series) -> Result<[String; 2], AllocError> {
+    let (rows, positions) = (series.rows(), series.names().len());
+    let chart = reaching(710, greatest_target(alloc, rows, positions)?);
+    let (mut grid, mut marks) = (String::new(alloc), String::new(alloc));
+    push_grid(&mut grid, chart)?;
+    for position in 0..positions {
+        let target = Measure::Target(position);
+        push_marks(&mut marks, chart, rows, position as u64, target)?;
+    }
+    Ok([grid, marks])
+}
+
+// The scale and the marks of the chart of the pages.
+fn page_pieces(alloc: Global, series: &Series) -> Result<[String; 2], AllocError> {
+    let (rows, positions) = (series.rows(), series.names().len());
+    let chart = page_scale(alloc, rows, guests_of(alloc, rows, positions)?)?;
+    let (mut grid, mut marks) = (String::new(alloc), String::new(alloc));
+    push_grid(&mut grid, chart)?;
+    let (swapped, ballooned) = (Pages::SwappedOut, Pages::Ballooned);
+    push_marks(&mut marks, chart, rows, 0, Measure::Total(swapped))?;
+    push_marks(&mut marks, chart, rows, 1, Measure::Total(ballooned))?;
+    Ok([grid, marks])
+}
+
+// How many marks there are in a text.
+fn marks_in(text: &String) -> usize {
+    text.as_str().matches(" dy=\"4\">").count()
+}
+
+// Asserts that a drawing has these scales and marks, and no other marks.
+fn assert_pieces(rt: &impl Abort, svg: &String, targets: &[String; 2], pages: &[String; 2]) {
+    let [target_grid, target_marks] = targets;
+    let [page_grid, page_marks] = pages;
+    for piece in [target_grid, target_marks, page_grid, page_marks] {
+        assert_shows(rt, svg, piece.as_str());
+    }
+    let marks = marks_in(target_marks).saturating_add(marks_in(page_marks));
+    assert_count(rt, svg, " dy=\"4\">", marks);
+}
+
+// Asserts the scales and marks of a run's drawing.
+fn assert_drawn(
+    rt: &(impl Abort + AllocGlobal + Threads + Sync),
+    config: &str,
+) -> Result<(), Fail> {
+    let alloc = rt.alloc();
+    let series = collect_series(rt, alloc, &Open, 1, config.as_bytes()).expect(rt, "a run");
+    let svg = String::from_utf8(svg_text(alloc, &series)?).expect(rt, "a text");
+    let targets = target_pieces(alloc, &series)?;
+    let pages = page_pieces(alloc, &series)?;
+    assert_pieces(rt, &svg, &targets, &pages);
+    Ok(())
+}
+
+// ---- runs
+
+// The greatest values of a step, and the least that want a greater one.
+const SIZES: [u32; 5] = [25, 10, 11, 26, 5];
+
+// Guests of several sizes, the greatest at another position in each run. Every third one is not there at first. In every second run
+// they fill their balloons page by page while they write to all their pages, so that more are swapped out.
+fn push_guests(config: &mut String, guests: usize, first: usize) -> Result<(), AllocError> {
+    for number in 0..guests {
+        let comma = if number == 0 { "" } else { "," };
+        let size = SIZES[number.wrapping_add(first) % 5];
+        let rate = if first % 2 == 0 { 16 } else { 1 };
+        let starts = number % 3 != 2;
+        write!(
+            config,
+            "{comma}{{\"name\":\"g{number}\",\"size\":{size},\"min\":2,\"rate\":{rate},\"autostart\":{starts},"
+        )?;
+        config.push_str(
+            "\"trace\":[\"w 0 0 01\",\"w 1 0 02\",\"w 2 0 03\",\"w 3 0 04\",\"w 4 0 05\",\"i\",\"r 0 0 1\"]}",
+        )?;
+    }
+    Ok(())
+}
+
+// What is asked of a guest before an epoch: it is away for two epochs of five, and has only two pages in one of the others.
+fn line_of(epoch: usize, number: usize) -> (&'static str, &'static str) {
+    match epoch.wrapping_add(number) % 5 {
+        0 => ("setmem", " 40"),
+        1 => ("destroy", ""),
+        2 => ("memshares", " 400"),
+        3 => ("start", ""),
+        _ => ("setmem", " 8"),
+    }
+}
+
+fn push_commands(config: &mut String, epochs: usize, guests: usize) -> Result<(), AllocError> {
+    for place in 0..epochs.saturating_mul(guests) {
+        let (epoch, number) = (place / guests.max(1), place % guests.max(1));
+        let comma = if place == 0 { "" } else { "," };
+        let (word, amount) = line_of(epoch, number);
+        write!(
+            config,
+            "{comma}{{\"at\":{epoch},\"line\":\"{word} g{number}{amount}\"}}"
+        )?;
+    }
+    Ok(())
+}
+
+fn run_of(alloc: Global, epochs: usize, guests: usize) -> Result<String, AllocError> {
+    let mut config = String::from_str(alloc, "{\"version\":1,\"frames\":60,\"swap\":100,")?;
+    let quantum = if epochs % 2 == 0 { 2 } else { 8 };
+    write!(
+        config,
+        "\"quantum\":{quantum},\"epochs\":{epochs},\"guests\":["
+    )?;
+    push_guests(&mut config, guests, epochs)?;
+    config.push_str("],\"commands\":[")?;
+    push_commands(&mut config, epochs, guests)?;
+    config.push_str("]}")?;
+    Ok(config)
+}
+
+// A mark falls in each epoch where there are fewer than twelve, in every second one of fewer than eighteen, and in every third one of
+// eighteen; so each curve has gaps where a mark would be. A legend has four guests in a line.
+#[test]
+fn marks_and_scales_follow_from_the_samples(rt: HostRuntime) -> Result<(), Fail> {
+    for epochs in [0, 1, 5, 6, 7, 11, 12, 13, 14, 18] {
+        for guests in [0, 1, 4, 5, 9] {
+            let config = run_of(rt.alloc(), epochs, guests)?;
+            assert_drawn(&rt, config.as_str())?;
+        }
+    }
+    Ok(())
+}
+
+// A guest of two frames, which writes to so many pages beside those, so that they are swapped out.
+fn swapped_run(alloc: Global, pages: usize) -> Result<String, AllocError> {
+    let size = pages.saturating_add(3);
+    let mut config = String::from_str(alloc, "{\"version\":1,\"frames\":60,\"swap\":50,")?;
+    config.push_str("\"quantum\":60,\"epochs\":1,\"guests\":[{\"name\":\"g\",")?;
+    write!(
+        config,
+        "\"size\":{size},\"min\":2,\"rate\":1,\"trace\":[\"i\""
+    )?;
+    for page in 0..pages.saturating_add(2) {
+        write!(config, ",\"w {page} 0 01\"")?;
+    }
+    config.push_str("]}],\"commands\":[{\"at\":0,\"line\":\"setmem g 8\"}]}")?;
+    Ok(config)
+}
+
+// An idle guest of two frames, with so many pages beside those, which go into the balloon.
+fn ballooned_run(alloc: Global, pages: usize) -> Result<String, AllocError> {
+    let size = pages.saturating_add(2);
+    let mut config = String::from_str(alloc, "{\"version\":1,\"frames\":60,\"swap\":50,")?;
+    config.push_str("\"epochs\":2,\"guests\":[{\"name\":\"g\",")?;
+    write!(config, "\"size\":{size},\"min\":2,\"rate\":64}}]")?;
+    config.push_str(",\"commands\":[{\"at\":0,\"line\":\"setmem g 8\"}]}")?;
+    Ok(config)
+}
+
+// The greatest numbers of pages that a scale reaches, and the least that want the next one.
+#[test]
+fn scales_of_pages_follow_from_the_samples(rt: HostRuntime) -> Result<(), Fail> {
+    let alloc = rt.alloc();
+    for pages in [5, 6, 10, 11, 25, 26] {
+        let swapped = swapped_run(alloc, pages)?;
+        assert_drawn(&rt, swapped.as_str())?;
+        let ballooned = ballooned_run(alloc, pages)?;
+        assert_drawn(&rt, ballooned.as_str())?;
+    }
+    Ok(())
+}
