@@ -45,7 +45,7 @@ impl<A: Allocator> Move for Shell<A> {
 }
 
 // Such a vector, whose pages are lent until the lifetime `life` ends. `first` is what whoever lent them said of the first one. A
-// `&` to it shows that `life` lasts.
+// `&` to it shows `first`, and that `life` lasts.
 pub(crate) struct Block<A: Allocator> {
     first: *mut u8,
     shell: Shell<A>,
@@ -106,7 +106,7 @@ unsafe impl<A: Allocator + Send> Send for Shell<A> {}
 
 unsafe impl<A: Allocator> Sync for Shell<A> {}
 
-// A `&` to it shows only that a lifetime lasts.
+// A `&` to it shows only a pointer, and that a lifetime lasts.
 unsafe impl<A: Allocator + Send> Send for Block<A> {}
 
 unsafe impl<A: Allocator> Sync for Block<A> {}

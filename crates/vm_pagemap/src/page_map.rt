@@ -44,9 +44,9 @@ struct Held {
 ///
 /// A contract sees it as the list of its [`Page`]s, and each call that changes one leaves the others as they are. It owns the
 /// frames, so it isn't `Drop`: [`PageMap::close`] ends it, once no page is in. No call but [`PageMap::new`] takes memory.
-/// [`PageMap::resident_at`] passes over one count for each 2048 pages, and then over 32 words at most; the first
-/// [`PageMap::put_frame`] under a page above all that were in before takes time for the pages between; all other calls take
-/// constant time, but for the bytes that they copy.
+/// [`PageMap::resident_at`] passes over one count for each 2048 pages, and then over 32 words at most; the first call by which a
+/// page above all that were in before comes in, [`PageMap::put_frame`] or [`PageMap::exchange`], takes time for the pages between;
+/// all other calls take constant time, but for the bytes that they copy.
 ///
 /// A system that gives out memory on first use gives some for as many frames as were in at once, and not for each page.
 pub struct PageMap {

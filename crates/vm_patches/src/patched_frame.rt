@@ -159,7 +159,7 @@ fn read_contents(contents: &Contents, frame: &Frame, offset: usize, bytes: &mut 
     }
 }
 
-// Writes bytes to the patch, if there is one that has room for them, and answers whether it did.
+// Writes bytes to the log, if there is one that has room for them, and answers whether it did.
 fn write_few(contents: &mut Contents, offset: usize, bytes: &[u8]) -> bool
     requires { offset + length bytes.now ≤ PAGE_BYTES }
     ensures written { OnTrue result (IsWritten contents.old contents.new offset bytes.now) }
@@ -172,7 +172,7 @@ fn write_few(contents: &mut Contents, offset: usize, bytes: &[u8]) -> bool
     }
 }
 
-// Writes bytes to the frame. Those of a patch go there too.
+// Writes bytes to the frame. Those of a log go there too.
 fn write_frame(contents: &mut Contents, page: &mut [u8; PAGE_BYTES], offset: usize, bytes: &[u8])
     requires { offset + length bytes.now ≤ PAGE_BYTES }
     ensures { contents_of contents.new page.new ≡ overwritten (contents_of contents.old page.old) offset bytes.now }
