@@ -3,7 +3,7 @@ ghost use Rattle.std.specs.Prelude.{◌≡◌, ◌≤◌, vec_capacity};
 
 use super::check_eq;
 use std::process::Abort;
-use vm_pages::PageSet;
+use vm_pages::{PageMarks, PageSet};
 
 // Asserts which pages a set has, least first.
 fn check_pages(rt: &impl Abort, set: &PageSet, pages: &[u32]) {
@@ -134,4 +134,43 @@ fn sets_end_at_words_and_blocks(rt: HostRuntime) {
     check_greatest(&rt, &longer, 2, &mut pages, &[2048, 2047]);
     check_eq(&rt, longer.nth(2047), 2047);
     check_eq(&rt, longer.nth(2048), 2048);
+}
+
+#[test]
+fn listed_pages_leave_a_set(rt: HostRuntime) {
+    let mut set = PageSet::new(rt.alloc(), 5000).expect(&rt, "memory");
+    set.insert(0);
+    set.insert(63);
+    set.insert(64);
+    set.insert(65);
+    set.insert(127);
+    set.insert(2047);
+    set.insert(2048);
+    set.insert(4999);
+    set.remove_all(&[]);
+    check_eq(&rt, set.len(), 8);
+    // In one word and beyond it, over blocks, one twice and one that isn't there.
+    set.remove_all(&[64, 65, 64, 66, 63, 2047, 2048]);
+    check_pages(&rt, &set, &[0, 127, 4999]);
+    set.remove_all(&[4999, 0, 127]);
+    check_pages(&rt, &set, &[]);
+}
+
+#[test]
+fn pages_are_marked(rt: HostRuntime) {
+    let mut marks = PageMarks::new(rt.alloc(), 130).expect(&rt, "memory");
+    marks.insert(63);
+    marks.insert(64);
+    marks.insert(129);
+    marks.insert(64);
+    check_eq(&rt, (marks.contains(63), marks.contains(64)), (true, true));
+    check_eq(
+        &rt,
+        (marks.contains(62), marks.contains(129)),
+        (false, true),
+    );
+    marks.remove(64);
+    marks.remove(0);
+    check_eq(&rt, (marks.contains(63), marks.contains(64)), (true, false));
+    check_eq(&rt, marks.contains(129), true);
 }
