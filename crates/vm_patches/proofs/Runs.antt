@@ -1,12 +1,12 @@
 -- What stretches of bytes write, one after the other.
 use Rattle.std.proofs.Common.{◌≡◌, ℕ, zero, suc, ◌+◌, ◌-◌, ◌<◌, ◌≤◌, List, [], ◌∷◌, ◌++◌, length, take, drop, set, get_or, slice_range, append_assoc, refl, sym, ap, ◌∙◌, arith}
-use Rattle.std.proofs.lemmas.List.{append-nil, drop-append-le, drop-drop, drop-take, drop_all, length-drop, length-take-le, take-append-le, take-take, take_all, take_more_set}
+use Rattle.std.proofs.lemmas.List.{append-nil, drop-append-le, drop-drop, drop-take, drop_all, length-append, length-drop, length-take-le, take-append-le, take-take, take_all, take_more_set}
 use Rattle.std.proofs.lemmas.List.Elements.{All-append, All-cons, All-nil}
 use Rattle.std.proofs.Math.Seq.{take-suc}
 use Rattle.vm_patches.specs.declared.log.Run.{Run}
 use Rattle.vm_patches.specs.Patches.{overwritten, patched, writes_of}
 use Rattle.vm_patches.specs.Runs.{length_of, offset_of, total, writes_in, IsLog, IsWithinPage}
-use Rattle.vm_patches.proofs.Writes.{length-patched, patched-append, patched-writes_of}
+use Rattle.vm_patches.proofs.Writes.{length-patched, length-writes_of, patched-append, patched-writes_of}
 
 pub total-append : (runs : List Run) (run : Run) → total (runs ++ run ∷ []) ≡ total runs + length_of run
 total-append [] run = omega arith
@@ -16,6 +16,19 @@ pub total-take : (runs : List Run) (i : ℕ) → total (take i runs) ≤ total r
 total-take runs zero = omega arith
 total-take [] (suc i) = omega arith
 total-take (first ∷ runs) (suc i) = let rest = total-take runs i in omega (arith, rest)
+
+-- each stretch has a byte
+pub length-le-total : (runs : List Run) → length runs ≤ total runs
+length-le-total [] = omega arith
+length-le-total (first ∷ runs) = let rest = length-le-total runs in omega (arith, rest)
+
+-- there are as many writes as bytes
+pub length-writes_in : (runs : List Run) (bytes : List ℕ) → total runs ≤ length bytes → length (writes_in runs bytes) ≡ total runs
+length-writes_in [] bytes fits = refl
+length-writes_in (first ∷ runs) bytes fits =
+    let rest = length-writes_in runs (drop (length_of first) bytes) (omega (arith, fits, length-drop (length_of first) bytes)) in
+    length-append (writes_of (offset_of first) (take (length_of first) bytes)) (writes_in runs (drop (length_of first) bytes))
+    ∙ omega (arith, rest, length-writes_of (offset_of first) (take (length_of first) bytes), length-take-le (length_of first) bytes (omega (arith, fits)))
 
 -- one stretch more
 pub total-next : (runs : List Run) (i n : ℕ) (d : Run) → n ≡ i + 1 → i < length runs → total (take n runs) ≡ total (take i runs) + length_of (get_or runs i d)
@@ -106,6 +119,14 @@ IsLog-pushed count at used len runs run is log below there short long within =
       within = rw pushed (All-append IsWithinPage (take count runs) (run ∷ []) log.within (All-cons IsWithinPage run [] within (All-nil IsWithinPage)));
       counted = rw pushed (omega (arith, total-append (take count runs) run, log.counted, long));
     })
+
+-- writes of so many bytes are of no more stretches
+pub few-writes : (count used : ℕ) (runs : List Run) (bytes : List ℕ) → IsLog count used runs → count ≤ length runs → 76 ≤ length bytes
+    → (length (writes_in (take count runs) bytes) ≡ used) × (count ≤ used)
+few-writes count used runs bytes log there room = (
+  length-writes_in (take count runs) bytes (omega (arith, log.counted, log.short, room)) ∙ log.counted,
+  omega (arith, length-le-total (take count runs), length-take-le count runs there, log.counted),
+)
 
 pub writes_in-pushed : (count at used from : ℕ) (runs : List Run) (run : Run) (bytes new rest : List ℕ) → at ≡ count → from ≡ used → total (take count runs) ≡ used → count < length runs → length_of run ≡ length new → used ≤ length bytes
     → writes_in (take (count + 1) (set runs at run)) (take from bytes ++ (new ++ rest)) ≡ writes_in (take count runs) bytes ++ writes_of (offset_of run) new

@@ -1,5 +1,5 @@
 // What was written to a page, stretch by stretch.
-ghost use Rattle.std.specs.Prelude.{◌≡◌, ℕ, ◌+◌, ◌<◌, ◌≤◌, ◌++◌, [], All, IfSome, List, length, slice_range};
+ghost use Rattle.std.specs.Prelude.{◌≡◌, ℕ, ◌+◌, ◌<◌, ◌≤◌, ◌++◌, [], All, IfSome, IsTrue, List, length, slice_range};
 ghost use Rattle.std.specs.Bool.{OnTrue, OnFalse};
 ghost use Rattle.vm_patches.specs.Patches.{overwritten, patched, writes_of, zero_bytes};
 ghost use Rattle.vm_patches.specs.Runs.{length_of, offset_of, total, writes_in, IsWithinPage};
@@ -88,11 +88,13 @@ impl Log {
         }
     }
 
-    /// Writes bytes from `offset` on, where they have room, and answers whether they had.
+    /// Writes bytes from `offset` on, where they have room, and answers whether they had. At most 16 always have, where the log has no
+    /// more than 20 with them.
     pub fn write(&mut self, offset: usize, bytes: &[u8]) -> bool
         requires { offset + length bytes.now ≤ PAGE_BYTES }
         ensures written { OnTrue result (self.new ≡ self.old ++ writes_of offset bytes.now) }
         ensures unchanged { OnFalse result (self.new ≡ self.old) }
+        ensures room { length bytes.now ≤ 16 → length self.old + length bytes.now ≤ 20 → IsTrue result }
     {
         let count = usize::from(self.count);
         let used = usize::from(self.used);
