@@ -30,7 +30,7 @@ pub enum Page {
     Absent,
     /// In this frame.
     In(PatchedFrame),
-    /// In the guest's swap area, of which the map knows nothing.
+    /// In the guest's swap area.
     Out,
 }
 
