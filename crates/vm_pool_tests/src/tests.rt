@@ -631,8 +631,11 @@ fn check_shared(
     let alone = shown_after(rt, &Open, 1, epochs, quantum)?;
     let open = shown_after(rt, &Open, 2, epochs, quantum)?;
     let most = shown_after(rt, &Open, 64, epochs, quantum)?;
+    let gated_alone = shown_after(rt, &no_passages(), 1, epochs, quantum)?;
     let gated = shown_after(rt, &no_passages(), 2, epochs, quantum)?;
-    check_eq(rt, [open, most, gated], [alone, alone, alone]);
+    let gated_most = shown_after(rt, &no_passages(), 64, epochs, quantum)?;
+    let shown = [open, most, gated_alone, gated, gated_most];
+    check_eq(rt, shown, [alone, alone, alone, alone, alone]);
     Ok(())
 }
 

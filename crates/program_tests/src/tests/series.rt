@@ -1,9 +1,9 @@
 // Rows and comma-separated values of whole runs, as the rules of a run give them.
-use super::setup::{LOW_AND_BACK, assert_bytes};
+use super::setup::{LOW_AND_BACK, Silent, assert_bytes, long_epoch};
 use std::process::Abort;
 use std::test::Fail;
 use std::thread::Threads;
-use vm_host::{Open, State};
+use vm_host::{Gate, Open, State};
 use vm_series::{EpochRow, Series, collect_series, csv_text};
 use vm_sim::{ConfigError, RunError};
 
@@ -26,23 +26,40 @@ const STALLED_RECORDS: &str = "0,high,98,g,2,2,2,0,0,65536,0,0,2\r\n1,high,100,,
 // Asserts the records of a configuration that is run on so many workers.
 fn assert_records(
     rt: &(impl Abort + AllocGlobal + Threads + Sync),
+    gate: &(impl Gate + Sync),
     workers: u32,
     config: &str,
     records: &str,
 ) -> Result<(), Fail> {
     let alloc = rt.alloc();
-    let series = collect_series(rt, alloc, &Open, workers, config.as_bytes()).expect(rt, "a run");
+    let series = collect_series(rt, alloc, gate, workers, config.as_bytes()).expect(rt, "a run");
     let text = csv_text(alloc, &series)?;
     let wanted = format!(in alloc; "{HEADER}{records}")?;
     assert_bytes(rt, text.as_slice(), wanted.as_bytes());
     Ok(())
 }
 
+// Through a gate that never waits epochs of so few steps stay on one thread, and through the other one they are rounds on threads.
 #[test]
 fn rows_become_records(rt: HostRuntime) -> Result<(), Fail> {
     for workers in [1, 2] {
-        assert_records(&rt, workers, LOW_AND_BACK, LOW_AND_BACK_RECORDS)?;
-        assert_records(&rt, workers, STALLED, STALLED_RECORDS)?;
+        assert_records(&rt, &Open, workers, LOW_AND_BACK, LOW_AND_BACK_RECORDS)?;
+        assert_records(&rt, &Silent, workers, LOW_AND_BACK, LOW_AND_BACK_RECORDS)?;
+        assert_records(&rt, &Open, workers, STALLED, STALLED_RECORDS)?;
+        assert_records(&rt, &Silent, workers, STALLED, STALLED_RECORDS)?;
+    }
+    Ok(())
+}
+
+const LONG_EPOCH_RECORDS: &str =
+    "0,high,92,a,4,4,1,0,0,65536,0,0,\r\n0,high,92,b,4,4,1,0,0,65536,0,0,\r\n";
+
+// Epochs of so many steps are shared by threads.
+#[test]
+fn a_long_epoch_becomes_records(rt: HostRuntime) -> Result<(), Fail> {
+    let config = long_epoch(rt.alloc())?;
+    for workers in [1, 2, 64] {
+        assert_records(&rt, &Open, workers, config.as_str(), LONG_EPOCH_RECORDS)?;
     }
     Ok(())
 }
@@ -66,8 +83,8 @@ fn records_are_as_long_as_their_fields(rt: HostRuntime) -> Result<(), Fail> {
         records.push_str(long.as_str())?;
         records.push_str(short.as_str())?;
     }
-    assert_records(&rt, 1, NAMES, records.as_str())?;
-    assert_records(&rt, 2, LARGE, LARGE_RECORDS)
+    assert_records(&rt, &Open, 1, NAMES, records.as_str())?;
+    assert_records(&rt, &Open, 2, LARGE, LARGE_RECORDS)
 }
 
 // A guest of 200000 pages on a machine of 262144 frames, with an overhead of 100.

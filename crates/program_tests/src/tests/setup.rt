@@ -1,5 +1,5 @@
 // Configurations with their reports, and readers and writers that fail.
-use std::alloc::Global;
+use std::alloc::{AllocError, Global};
 use std::io;
 use std::io::{Error, ErrorKind};
 use std::process::Abort;
@@ -69,6 +69,26 @@ machine 100 held 98 free 0 overhead 2\n";
 pub(super) const STEP_THAT_CANNOT_BE_READ: &str =
     "{\"version\":1,\"frames\":100,\"epochs\":1,\"guests\":[{\"name\":\"web\",\"size\":4,\"min\":4,\
 \"trace\":[\"i\",\"w 0 0 f\"]}]}";
+
+// Two guests with 2000 steps each in one epoch, which is as much as four threads are for: each writes 0 to 1998 to its first byte,
+// without what is over 255, and reads it.
+pub(super) fn long_epoch(alloc: Global) -> Result<String, AllocError> {
+    let mut steps = String::new(alloc);
+    for number in 0..1999u32 {
+        write!(steps, "\"w 0 0 {:02x}\",", number % 256)?;
+    }
+    let rest = "\"size\":4,\"min\":4,\"period\":1000000,\"trace\":[";
+    format!(in alloc;
+        "{{\"version\":1,\"frames\":100,\"quantum\":2000,\"epochs\":1,\"guests\":[\
+{{\"name\":\"a\",{rest}{steps}\"r 0 0 1\"]}},{{\"name\":\"b\",{rest}{steps}\"r 0 0 1\"]}}]}}"
+    )
+}
+
+pub(super) const LONG_EPOCH_REPORT: &str =
+    "epoch 0\n> start a\nok\n> start b\nok\nstate high free 92\na r 0 0 ce\nb r 0 0 ce\nend\n\
+a target 4 held 4 swapped 0 balloon 0 active 65536 bad 0 done 2000\n\
+b target 4 held 4 swapped 0 balloon 0 active 65536 bad 0 done 2000\n\
+machine 100 held 8 free 92 overhead 0\n";
 
 // A gate that does nothing, and does not say that it never waits: so an epoch on two workers or more is a round on threads.
 pub(super) struct Silent;

@@ -1,9 +1,11 @@
 // `vmmem`: exit statuses, what is said on standard error, and what is written.
 use super::setup::{
-    FIRST_READ, FIRST_READ_REPORT, STEP_THAT_CANNOT_BE_READ, assert_bytes, assert_length,
+    FIRST_READ, FIRST_READ_REPORT, LONG_EPOCH_REPORT, STEP_THAT_CANNOT_BE_READ, assert_bytes,
+    assert_length, long_epoch,
 };
 use super::system::{Broken, assert_has_spoken, assert_said, assert_status, with_words};
 use std::process::Abort;
+use std::test::Fail;
 use std::thread::Threads;
 use vm_program::status;
 use vm_sim::Watched;
@@ -102,4 +104,15 @@ fn the_report_is_written(rt: HostRuntime) {
     for words in [&["vmmem"] as &[&str], &["vmmem", "--workers", "64"]] {
         assert_end(&rt, words, FIRST_READ, 0, "", FIRST_READ_REPORT);
     }
+}
+
+// Epochs of so many steps are shared by threads.
+#[test]
+fn a_long_epoch_is_told(rt: HostRuntime) -> Result<(), Fail> {
+    let config = long_epoch(rt.alloc())?;
+    for workers in ["1", "2", "64"] {
+        let words = ["vmmem", "--workers", workers];
+        assert_end(&rt, &words, config.as_str(), 0, "", LONG_EPOCH_REPORT);
+    }
+    Ok(())
 }
