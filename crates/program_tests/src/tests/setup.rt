@@ -70,8 +70,8 @@ pub(super) const STEP_THAT_CANNOT_BE_READ: &str =
     "{\"version\":1,\"frames\":100,\"epochs\":1,\"guests\":[{\"name\":\"web\",\"size\":4,\"min\":4,\
 \"trace\":[\"i\",\"w 0 0 f\"]}]}";
 
-// Two guests with 2000 steps each in one epoch, which is as much as four threads are for: each writes 0 to 1998 to its first byte,
-// without what is over 255, and reads it.
+// Two guests with 2000 steps each in one epoch, enough for a thread each: each writes 0 to 1998 to its first byte, without what is
+// over 255, and reads it.
 pub(super) fn long_epoch(alloc: Global) -> Result<String, AllocError> {
     let mut steps = String::new(alloc);
     for number in 0..1999u32 {
