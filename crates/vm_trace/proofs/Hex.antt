@@ -1,6 +1,6 @@
 -- The bytes that pairs of hexadecimal digits spell, one by one.
 use Rattle.std.proofs.Common.{◌≡◌, ◌∙◌, map, ℕ, zero, suc, ◌+◌, ◌-◌, ◌*◌, ◌%◌, ◌<◌, Bool, true, false, nat_lt, ◌&&◌, if◌then◌else◌, Some, None, List, [], ◌∷◌, ◌++◌, length, get_or, take, refl, ap, arith}
-use Rattle.std.proofs.lemmas.Bool.{and_parts, eqb-true, ltb-true}
+use Rattle.std.proofs.lemmas.Bool.{and_parts, eqb-true}
 use Rattle.std.proofs.lemmas.List.Folds.{list_all_more}
 use Rattle.std.proofs.lemmas.List.FromFn.{get_or-map-range_with_len}
 use Rattle.std.specs.Char.{digit_value}
@@ -47,28 +47,6 @@ digits_of_more i ds inside before high low =
     let two : 2 * (i + 1) ≡ 2 * i + 1 + 1 = omega arith in
     let one : list_all is_digit (take (2 * i + 1) ds) ≡ true = list_all_more is_digit ds (2 * i) 0 (omega arith) ∙ rw (before, high) refl in
     rw two (list_all_more is_digit ds (2 * i + 1) 0 inside ∙ rw (one, low) refl)
-
--- the digits of one byte more are tested with those before
-pub digits_so_far : (ds : List ℕ) (i : ℕ) (before : Bool) (high low : ℕ) → 2 * i + 1 < length ds → before ≡ list_all (λ c. nat_lt (digit_value c) 16) (take (2 * i) ds)
-    → nat_lt high 16 ≡ nat_lt (digit_value (get_or ds (2 * i) 0)) 16 → nat_lt low 16 ≡ nat_lt (digit_value (get_or ds (2 * i + 1) 0)) 16
-    → (before && nat_lt high 16) && nat_lt low 16 ≡ list_all (λ c. nat_lt (digit_value c) 16) (take (2 * (i + 1)) ds)
-digits_so_far ds i before high low inside tested first second =
-    let is_digit : ℕ → Bool = λ c. nat_lt (digit_value c) 16 in
-    let two : 2 * (i + 1) ≡ 2 * i + 1 + 1 = omega arith in
-    let one = list_all_more is_digit ds (2 * i) 0 (omega arith) in
-    let other = list_all_more is_digit ds (2 * i + 1) 0 inside in
-    rw (tested, first, second, two, other, one) refl
-
--- where the digits up to a byte are hexadecimal, so are those before it
-pub digits_before : (before : Bool) (high low : ℕ) → (before && nat_lt high 16) && nat_lt low 16 ≡ true → (before ≡ true) × (high < 16) × (low < 16)
-digits_before before high low all =
-    let last = and_parts (before && nat_lt high 16) (nat_lt low 16) all in
-    let first = and_parts before (nat_lt high 16) last.0 in
-    (first.0, ltb-true high 16 first.1, ltb-true low 16 last.1)
-
--- the byte of two hexadecimal digits is not cut
-pub byte_fits : (high low : ℕ) → high < 16 → low < 16 → (high * 16 % 256 + low) % 256 ≡ 16 * high + low
-byte_fits high low first second = omega arith
 
 -- there is a byte for each two digits
 pub length-hex_pairs : (ds : List ℕ) → 2 * length (hex_pairs ds) + length ds % 2 ≡ length ds

@@ -1,5 +1,5 @@
 // The bytes of a step, and how hexadecimal digits spell them.
-ghost use Rattle.std.specs.Prelude.{◌≡◌, ◌↔◌, ◌+◌, ◌*◌, ◌/◌, ◌<◌, ◌≤◌, [], length, get_or, nat_lt, true, false, None, IsTrue, IfSome};
+ghost use Rattle.std.specs.Prelude.{◌≡◌, ◌↔◌, ◌+◌, ◌*◌, ◌<◌, ◌≤◌, [], length, get_or, nat_lt, true, IsTrue};
 ghost use Rattle.std.specs.List.{list_all};
 ghost use Rattle.std.specs.Char.{digit_value};
 ghost use Rattle.vm_trace.specs.Words.{is_hex, pair_of, hex_pairs};
@@ -85,34 +85,6 @@ impl Bytes {
             buffer,
         }
     }
-
-    // The bytes that a text spells in hexadecimal digits; `None` for another text. Each digit is read by arithmetic and all are
-    // tested together, so that the loop takes many digits at a time.
-    pub(crate) fn spelled(text: &[u8]) -> Option<Self>
-        requires { length text.now / 2 ≤ MAX_BYTES }
-        ensures some { IfSome result (λ bytes. (is_hex text.now ≡ true) × (bytes ≡ hex_pairs text.now)) }
-        ensures none { result ≡ None → is_hex text.now ≡ false }
-    {
-        if text.len() % 2 != 0 {
-            return None;
-        }
-        let len = text.len() / 2;
-        let mut buffer = [0; MAX_BYTES];
-        let mut digits = true;
-        for i in 0..len {
-            let high = hex_number(text[2 * i]);
-            let low = hex_number(text[2 * i + 1]);
-            digits = digits & (high < 16) & (low < 16);
-            buffer[i] = high.wrapping_mul(16).wrapping_add(low);
-        }
-        if !digits {
-            return None;
-        }
-        Some(Bytes {
-            len: len as u8,
-            buffer,
-        })
-    }
 }
 
 // The byte that the two digits at a place spell, counted in pairs.
@@ -170,24 +142,4 @@ fn hex_value(digit: u8) -> u8
     ensures { result ≡ digit_value digit }
 {
     DIGIT_VALUES[digit as usize]
-}
-
-// The same by arithmetic, which is done for many digits at a time where they are read in a loop.
-#[inline(always)]
-fn hex_number(digit: u8) -> u8
-    ensures small { nat_lt result 16 ≡ nat_lt (digit_value digit) 16 }
-    ensures value { result < 16 → result ≡ digit_value digit }
-{
-    let decimal = digit.wrapping_sub(b'0');
-    let capital = digit.wrapping_sub(b'A');
-    let letter = digit.wrapping_sub(b'a');
-    if decimal < 10 {
-        decimal
-    } else if capital < 6 {
-        capital + 10
-    } else if letter < 6 {
-        letter + 10
-    } else {
-        16
-    }
 }

@@ -1,5 +1,5 @@
 // How steps come into the entries of a trace.
-ghost use Rattle.std.specs.Prelude.{◌≡◌, ◌<◌, ◌≤◌, ◌↔◌, ◌^◌, ◌/◌, ◌++◌, length, [], ◌∷◌, true, None, Err, IsTrue, IfOk, IfSome, OnErr, OnOk};
+ghost use Rattle.std.specs.Prelude.{◌≡◌, ◌<◌, ◌≤◌, ◌↔◌, ◌^◌, ◌++◌, length, [], ◌∷◌, true, None, Err, IsTrue, IfOk, IfSome, OnErr, OnOk};
 ghost use Rattle.vm_trace.specs.declared.error.PushError.TheVariants.{Fault};
 ghost use Rattle.vm_trace.specs.declared.error.TraceError.{TraceError};
 ghost use Rattle.vm_trace.specs.Entries.{bytes_of, Keeps};
@@ -7,7 +7,7 @@ ghost use Rattle.vm_trace.specs.Limits.{IsStep, IsWithin};
 ghost use Rattle.vm_trace.specs.Entering.{KeepsHex, LeavesHex, IsEntryOf};
 ghost use Rattle.vm_trace.specs.Sized.{step_in};
 
-use crate::bytes::{Bytes, MAX_BYTES, pair_of};
+use crate::bytes::{Bytes, pair_of};
 use crate::entry::Entry;
 use crate::error::{PushError, TraceError};
 use crate::parse::parse_step_within;
@@ -67,20 +67,6 @@ pub(crate) fn keep_pairs(store: &mut Vec<u8>, text: &[u8]) -> Result<Option<u32>
         };
         store.push_reserved(byte);
     }
-    Ok(Some(start))
-}
-
-// As `keep_pairs`, for the many digits of a raw buffer, which are read at once.
-pub(crate) fn keep_many(store: &mut Vec<u8>, text: &[u8]) -> Result<Option<u32>, AllocError>
-    requires { length text.now / 2 ≤ MAX_BYTES }
-    ensures kept { IfOk result (λ found. IfSome found (KeepsHex text.now store.old.items store.new.items)) }
-    ensures none { IfOk result (λ found. found ≡ None → LeavesHex text.now store.old.items store.new.items) }
-    ensures err { OnErr result (store.new.items ≡ store.old.items) }
-{
-    let Some(bytes) = Bytes::spelled(text) else {
-        return Ok(None);
-    };
-    let start = keep(store, bytes)?;
     Ok(Some(start))
 }
 

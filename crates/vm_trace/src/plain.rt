@@ -6,7 +6,7 @@ ghost use Rattle.vm_trace.specs.Spelling.{IsNumeral};
 ghost use Rattle.vm_trace.specs.Entering.{IsDecimal, IsField, IsPlace, IsEntered, IsEnteredAt};
 
 use crate::bytes::MAX_BYTES;
-use crate::entering::{keep_hex, keep_many};
+use crate::entering::{keep_hex, keep_pairs};
 use crate::entry::Entry;
 use crate::parse::{MAX_ACCESS, PAGE_BYTES, queue_of};
 use std::alloc::AllocError;
@@ -166,7 +166,7 @@ fn post(store: &mut Vec<u8>, text: &[u8]) -> Result<Option<Entry>, AllocError>
     if len == 0 || len > MAX_BYTES {
         return Ok(None);
     }
-    let Some(start) = keep_many(store, digits)? else {
+    let Some(start) = keep_pairs(store, digits)? else {
         return Ok(None);
     };
     Ok(Some(Entry::Post {

@@ -14,5 +14,5 @@ returns-clause-entry c =
     let named : letter ≡ letter_of c.in-Ok.queue = queue_from letter c.in-Ok.queue (sym c.queue_of.ensures ∙ c.in-Ok.is) in
     let whole : text ≡ 112 ∷ 32 ∷ letter ++ 32 ∷ digits = begins_post text (search rules) (search rules) (search rules) (search rules) in
     let few : IsBuffer (length digits / 2) = search rules in
-    let kept : KeepsHex digits c.args.store.now.items c.keep_many.new.store.items c.in-Some.start = search rules in
-    post_entered letter digits text c.args.store.now.items c.keep_many.new.store.items c.in-Ok.queue c.in-Some.start named whole few kept
+    let kept : KeepsHex digits c.args.store.now.items c.keep_pairs.new.store.items c.in-Some.start = search rules in
+    post_entered letter digits text c.args.store.now.items c.keep_pairs.new.store.items c.in-Ok.queue c.in-Some.start named whole few kept
