@@ -1,6 +1,5 @@
-ghost use Rattle.std.specs.Prelude.{◌≡◌, ◌+◌, ◌<◌, IfOk, IfSome, IfNone, IsTrue, false, vec_capacity, vec_len};
+ghost use Rattle.std.specs.Prelude.{◌≡◌, ◌+◌, ◌<◌, IfOk, IfSome, IfNone, IsTrue, false};
 ghost use Rattle.std.specs.FinSet as set;
-ghost use Rattle.vm_frames.specs.KeptFrames.{numbers_of, without, AreDistinctIn};
 
 use crate::frame::Frame;
 use crate::memory::Memory;
@@ -12,7 +11,7 @@ use std::marker::Model;
 /// A contract sees it as how many frames there are, `total`, and the set of the numbers of those that somebody holds, `out`.
 /// A frame is made when it is first taken. Before, the machine keeps 8 bytes for it.
 /// It isn't `Drop`: [`Machine::close`] ends it, once each frame is back. No call but [`Machine::new`] takes memory, and each of
-/// the others but `give_all` and `close` takes constant time.
+/// the others but `close` takes constant time.
 pub struct Machine {
     total: u32,
     // How many were made, with the numbers below it.
@@ -80,16 +79,6 @@ impl Machine {
         ensures { self.new ≡ record self.old { out = set.remove self.old.out frame.number } }
     {
         self.free.push_reserved(frame);
-    }
-
-    /// Takes frames back, all at once. The list is empty then, and has the room that it had.
-    pub fn give_all(&mut self, frames: &mut Vec<Frame>)
-        requires { AreDistinctIn self.old.out (numbers_of frames.old.items) }
-        ensures machine { self.new ≡ record self.old { out = without self.old.out (numbers_of frames.old.items) } }
-        ensures none { vec_len frames.new ≡ 0 }
-        ensures room { vec_capacity frames.new ≡ vec_capacity frames.old }
-    {
-        self.free.append(frames).unwrap();
     }
 
     /// How many frames are free: with those that somebody holds they are all of the machine's.

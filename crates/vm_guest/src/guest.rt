@@ -361,7 +361,7 @@ impl Guest {
         } = parts;
         // By one call: each part's own drop written out here would be dear to check.
         drop((used, free, device, sampler, used_early, reads, draft));
-        memory.close(machine);
+        memory.close(spec.size, machine);
         spec
     }
 }

@@ -216,15 +216,6 @@ impl PageMap {
         self.resident.nth(k)
     }
 
-    /// One of the pages that are in: that whose frame is removed with the least work.
-    pub fn resident_last(&self) -> u32
-        requires { 0 < count (resident self.now) }
-        ensures in_range { result < length self.now }
-        ensures is_in { IsIn (page_at self.now result) }
-    {
-        self.held[self.held.len() - 1].page
-    }
-
     /// Ends a map with no page in.
     pub fn close(self)
         requires { count (resident self) ≡ 0 }

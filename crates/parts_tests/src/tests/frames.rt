@@ -51,21 +51,3 @@ fn each_frame_is_taken_once(rt: HostRuntime) {
     machine.give(first);
     close_machine(&rt, machine, 2);
 }
-
-#[test]
-#[tactic(auto, using(vm_frames::proofs::NumberSets::set_members))]
-fn frames_are_given_back_at_once(rt: HostRuntime) {
-    let mut machine = Machine::new(rt.alloc(), 3).expect(&rt, "memory");
-    let mut frames = Vec::with_capacity(rt.alloc(), 2).expect(&rt, "memory");
-    let first = machine.take().expect(&rt, "a free frame");
-    let second = machine.take().expect(&rt, "a free frame");
-    frames.push_reserved(first);
-    frames.push_reserved(second);
-    check_eq(&rt, machine.free(), 1);
-    machine.give_all(&mut frames);
-    check_eq(&rt, (machine.free(), frames.len()), (3, 0));
-    check_eq(&rt, frames.capacity() >= 2, true);
-    machine.give_all(&mut frames);
-    frames.destroy_empty();
-    close_machine(&rt, machine, 3);
-}

@@ -19,12 +19,6 @@ fn check_resident(rt: &impl Abort, map: &PageMap, pages: &[u32]) {
     }
 }
 
-// Asserts that the page whose frame is removed with the least work is one of these.
-fn check_last(rt: &impl Abort, map: &PageMap, pages: &[u32]) {
-    assert!(rt; map.resident() > 0);
-    check_eq(rt, pages.contains(&map.resident_last()), true);
-}
-
 fn check_place(rt: &impl Abort, map: &PageMap, page: u32, place: Place)
     requires { page < length map.now }
 {
@@ -49,10 +43,8 @@ fn pages_are_listed_in_order(rt: HostRuntime) {
     map.put_frame(5, PatchedFrame::new(first));
     map.put_frame(2, PatchedFrame::new(second));
     check_resident(&rt, &map, &[2, 5]);
-    check_last(&rt, &map, &[2, 5]);
     let first = map.remove_frame(5);
     check_resident(&rt, &map, &[2]);
-    check_last(&rt, &map, &[2]);
     let second = map.remove_frame(2);
     machine.give(first.into_frame());
     machine.give(second.into_frame());

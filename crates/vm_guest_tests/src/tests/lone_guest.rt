@@ -20,6 +20,28 @@ fn demand(rt: &impl Abort, holds: bool)
     assert!(rt; holds);
 }
 
+// Asserts the numbers of the frames that a machine hands out next, all of which go back to it.
+#[tactic(auto, using(vm_frames::proofs::NumberSets::set_members))]
+fn check_next(rt: &impl Abort, machine: &mut Machine, wanted: (u32, u32, u32, u32))
+    ensures { machine.new.out ≡ machine.old.out }
+{
+    let first = machine.take().expect(rt, "a free frame");
+    let second = machine.take().expect(rt, "a free frame");
+    let third = machine.take().expect(rt, "a free frame");
+    let fourth = machine.take().expect(rt, "a free frame");
+    let numbers = (
+        first.number(),
+        second.number(),
+        third.number(),
+        fourth.number(),
+    );
+    check_eq(rt, numbers, wanted);
+    machine.give(fourth);
+    machine.give(third);
+    machine.give(second);
+    machine.give(first);
+}
+
 // A guest, and a machine that no other guest has frames of.
 pub(super) struct LoneGuest {
     guest: Guest,
@@ -354,6 +376,14 @@ impl LoneGuest {
     // The same, where the specification that comes back goes as well.
     pub(super) fn finish(self) {
         let _spec = self.end();
+    }
+
+    // The same, which asserts the numbers of the frames that the machine hands out then.
+    pub(super) fn finish_before(self, rt: &impl Abort, wanted: (u32, u32, u32, u32)) {
+        let LoneGuest { guest, mut machine } = self;
+        let _spec = guest.stop(&mut machine);
+        check_next(rt, &mut machine, wanted);
+        machine.close();
     }
 
     // The same, which asserts the size of that specification, its minimum, and how many steps it has.
