@@ -5,7 +5,7 @@ ghost use Rattle.vm_patches.specs.Patches.{patched};
 ghost use Rattle.vm_swap.specs.Area.{zero_bytes};
 ghost use Rattle.vm_swap.specs.Merged.{merged};
 
-use crate::table::{PAGE_BYTES, PAGE_LIMIT, Table, trade_bytes};
+use crate::table::{PAGE_BYTES, PAGE_LIMIT, Table, roomy, trade_bytes};
 use std::alloc::{AllocError, Global};
 use std::marker::Model;
 use vm_frames::Frame;
@@ -55,7 +55,7 @@ impl SwapArea {
         Ok(SwapArea {
             capacity: slots,
             whole: Table::new(alloc, usable(slots))?,
-            few: Table::new(alloc, usable(slots))?,
+            few: Table::new(alloc, roomy(usable(slots)))?,
         })
     }
 
@@ -86,7 +86,7 @@ impl SwapArea {
     {
         let capacity = self.capacity + more;
         self.whole.reserve(usable(capacity))?;
-        self.few.reserve_moving(usable(capacity))?;
+        self.few.reserve_roomy(usable(capacity))?;
         self.capacity = capacity;
         Ok(())
     }

@@ -20,7 +20,7 @@ struct Slot<V> {
     value: V,
 }
 
-// A value for each of some pages, found by one read of the index. Only `new`, `reserve` and `reserve_moving` take memory.
+// A value for each of some pages, found by one read of the index. Only `new`, `reserve` and `reserve_roomy` take memory.
 #[derive(Drop)]
 pub(crate) struct Table<V> {
     // In no order.
@@ -75,16 +75,33 @@ impl<V: Drop> Table<V> {
         self.slots.reserve_exact(more)
     }
 
-    // As `reserve`, for small values. Where few of them are there, beside what the room grows by, they move to new memory, since what
-    // is grown in place may be copied whole, with all of the room that was never used. So all that a table ever copies here is an
-    // eighth of its room.
-    pub(crate) fn reserve_moving(&mut self, room: usize) -> Result<(), AllocError>
+    // As `reserve`, for small values: where there is less, it asks for an eighth more, so that small steps pay for what is copied, and
+    // only where that is refused for no more than is needed.
+    pub(crate) fn reserve_roomy(&mut self, room: usize) -> Result<(), AllocError>
+        requires { room ≤ PAGE_LIMIT }
         ensures values { self.new.values ≡ self.old.values }
         ensures room { OnOk result (room ≤ self.new.room) }
         ensures kept { self.old.room ≤ self.new.room }
         ensures refused { OnErr result (self.old.room < room) }
     {
-        if self.slots.len() <= room.saturating_sub(self.slots.capacity()) / 8 {
+        if room <= self.slots.capacity() {
+            return Ok(());
+        }
+        match self.widen(roomy(room)) {
+            Ok(()) => Ok(()),
+            Err(_) => self.reserve(room),
+        }
+    }
+
+    // As `reserve`. Where at most half of the room is used, the values move to new memory, since what grows in place may be copied
+    // whole, with all of the room that was never used. So no growth copies more than twice what the table holds.
+    fn widen(&mut self, room: usize) -> Result<(), AllocError>
+        ensures values { self.new.values ≡ self.old.values }
+        ensures room { OnOk result (room ≤ self.new.room) }
+        ensures kept { self.old.room ≤ self.new.room }
+        ensures refused { OnErr result (self.old.room < room) }
+    {
+        if self.slots.len() <= self.slots.capacity() / 2 {
             self.move_to(room)
         } else {
             self.reserve(room)
@@ -203,6 +220,14 @@ impl<V: Drop> Table<V> {
             None => None,
         }
     }
+}
+
+// Room for so many small values and an eighth more, as far as a guest can have pages.
+pub(crate) fn roomy(room: usize) -> usize
+    requires { room ≤ PAGE_LIMIT }
+    ensures { room ≤ result }
+{
+    (room + room / 8).min(PAGE_LIMIT as usize)
 }
 
 // Gives the slot of a page to another one that has none, and exchanges the bytes in it with those of the frame. It answers whether
