@@ -213,12 +213,13 @@ contains-bit words size word bit few inside set =
     at_bit : (word * 64 + bit) % 64 ≡ bit
     at_bit = omega arith
 
--- the same where `k` bits before it are set, and the set has more pages than those `k` are set, where the set has more pages than that
+-- the page at a place of a word is in the set, and `k` pages of that word stand before it
 pub record IsPage (words : List ℕ) (size word place k : ℕ) : Type 0 where
   pub in_range : word * 64 + place < size
   pub there : contains (marked words size) (word * 64 + place) ≡ true
   pub before : count_below (marked words size) (word * 64 + place) ≡ count_below (marked words size) (word * 64) + k
 
+-- the page at a set bit is, where `k` bits before that one are set and the set has more than `k` pages from the word on
 pub is_page : (words : List ℕ) (size word place k : ℕ) → word * 64 < size → place < 64 → bit_at (get_or words word 0) place ≡ 1
     → count_ones (get_or words word 0 % 2 ^ place) ≡ k → count_below (marked words size) (word * 64) + k < count (marked words size) → IsPage words size word place k
 is_page words size word place k begins few set is there = record {

@@ -1,7 +1,8 @@
 // Sets of pages.
-ghost use Rattle.std.specs.Prelude.{◌≡◌, ◌≤◌, vec_capacity};
+ghost use Rattle.std.specs.Prelude.{◌≡◌, ◌<◌, ◌≤◌, All, length, vec_capacity};
 
 use super::check_eq;
+use std::alloc::Global;
 use std::process::Abort;
 use vm_pages::{PageMarks, PageSet};
 
@@ -173,4 +174,104 @@ fn pages_are_marked(rt: HostRuntime) {
     marks.remove(0);
     check_eq(&rt, (marks.contains(63), marks.contains(64)), (true, false));
     check_eq(&rt, marks.contains(129), true);
+}
+
+// The next number of a linear congruential generator. Its upper bits are the better ones.
+fn next_number(number: u32) -> u32 {
+    number.wrapping_mul(69069).wrapping_add(1)
+}
+
+// Adds about one of `gap` pages to a set, and to a list of its pages.
+fn add_pages(rt: &impl Abort, set: &mut PageSet, size: u32, gap: u32, pages: &mut Vec<u32>)
+    requires size { length set.old ≡ size }
+    requires gap { 0 < gap }
+    ensures { length set.new ≡ size }
+{
+    let mut number = gap;
+    for page in 0..size {
+        number = next_number(number);
+        if (number >> 16) % gap == 0 {
+            set.insert(page);
+            pages.push(page).expect(rt, "memory");
+        }
+    }
+}
+
+// Draws pages, and with each of them one before it in its word.
+fn draw_pages(rt: &impl Abort, alloc: Global, size: u32, count: u32) -> Vec<u32>
+    requires { 0 < size }
+    ensures { All (λ page. page < size) result.items }
+{
+    let mut pages = Vec::new(alloc);
+    let mut number = count;
+    for _ in 0..count {
+        number = next_number(number);
+        let page = (number >> 16) % size;
+        pages.push(page).expect(rt, "memory");
+        pages.push(page - page % 8).expect(rt, "memory");
+    }
+    pages
+}
+
+// Asserts which the greatest and the least pages of a set are, of which these are all, least first.
+fn check_ends(rt: &impl Abort, alloc: Global, set: &PageSet, pages: &[u32], most: u32) {
+    let mut listed = Vec::with_capacity(alloc, most as usize).expect(rt, "memory");
+    let count = pages.len().min(most as usize);
+    check_least(rt, set, most, &mut listed, &pages[..count]);
+    set.list_greatest(most, &mut listed);
+    listed.reverse();
+    check_eq(rt, listed.as_slice(), &pages[pages.len() - count..]);
+}
+
+// Asserts that these are all pages of a set, least first, by each call that finds or lists some.
+fn check_listings(rt: &impl Abort, alloc: Global, set: &PageSet, pages: &[u32]) {
+    check_pages(rt, set, pages);
+    check_ends(rt, alloc, set, pages, 0);
+    check_ends(rt, alloc, set, pages, 1);
+    check_ends(rt, alloc, set, pages, 65);
+    check_ends(rt, alloc, set, pages, 2048);
+    check_ends(rt, alloc, set, pages, 5000);
+}
+
+// Takes drawn pages out of a set at once, and out of a list of its pages one by one.
+fn check_removal(rt: &impl Abort, alloc: Global, set: &mut PageSet, size: u32, pages: &mut Vec<u32>)
+    requires some { 0 < size }
+    requires size { length set.old ≡ size }
+{
+    let drawn = draw_pages(rt, alloc, size, size / 4);
+    set.remove_all(&drawn);
+    pages.retain(|page| !drawn.contains(page));
+    check_listings(rt, alloc, set, pages);
+}
+
+// Asserts what a set of about one of `gap` pages tells, before and after pages leave it.
+fn check_made_set(rt: &impl Abort, alloc: Global, size: u32, gap: u32)
+    requires some { 0 < size }
+    requires gap { 0 < gap }
+{
+    let mut set = PageSet::new(alloc, size).expect(rt, "memory");
+    let mut pages = Vec::new(alloc);
+    add_pages(rt, &mut set, size, gap, &mut pages);
+    check_listings(rt, alloc, &set, &pages);
+    check_removal(rt, alloc, &mut set, size, &mut pages);
+}
+
+// The same of sets of all, of many and of few pages.
+fn check_made_sets(rt: &impl Abort, alloc: Global, size: u32)
+    requires { 0 < size }
+{
+    check_made_set(rt, alloc, size, 1);
+    check_made_set(rt, alloc, size, 3);
+    check_made_set(rt, alloc, size, 50);
+}
+
+#[test]
+fn made_sets_are_found_and_listed_like_lists(rt: HostRuntime) {
+    check_made_sets(&rt, rt.alloc(), 63);
+    check_made_sets(&rt, rt.alloc(), 64);
+    check_made_sets(&rt, rt.alloc(), 65);
+    check_made_sets(&rt, rt.alloc(), 2047);
+    check_made_sets(&rt, rt.alloc(), 2048);
+    check_made_sets(&rt, rt.alloc(), 2049);
+    check_made_sets(&rt, rt.alloc(), 4096);
 }
