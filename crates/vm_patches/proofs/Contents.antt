@@ -1,4 +1,4 @@
--- What a page contains, after bytes were written to its patch.
+-- What a page contains, after bytes were written to its log.
 use Rattle.std.proofs.Common.{◌≡◌, ℕ, ◌+◌, ◌≤◌, List, length, ◌∙◌, arith}
 use Rattle.vm_patches.specs.declared.patched_frame.Contents.{Contents}
 use Rattle.vm_patches.specs.declared.patched_frame.Contents.TheVariants.{Few, Lines, Whole}

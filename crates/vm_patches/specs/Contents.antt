@@ -1,5 +1,5 @@
 -- What a page contains that is of few bytes, of some lines or of a whole frame.
-use Rattle.std.specs.Prelude.{◌≡◌, ℕ, ◌++◌, List, [], Option, None, Some}
+use Rattle.std.specs.Prelude.{◌≡◌, ℕ, ◌≤◌, ◌++◌, List, [], Option, None, Some, length}
 use Rattle.vm_patches.specs.declared.patch.ByteWrite.{ByteWrite}
 use Rattle.vm_patches.specs.declared.patched_frame.Contents.{Contents}
 use Rattle.vm_patches.specs.declared.patched_frame.Contents.TheVariants.{Few, Lines, Whole}
@@ -17,6 +17,12 @@ abbrev pub IsWritten : Contents → Contents → ℕ → List ℕ → Type 0
 IsWritten (Few writes) new offset bytes = new ≡ Few (writes ++ writes_of offset bytes)
 IsWritten (Lines lines) new offset bytes = ⊥
 IsWritten Whole new offset bytes = ⊥
+
+-- there is a log, and a patch has room for its writes
+abbrev pub FitsPatch : Contents → Type 0
+FitsPatch (Few writes) = length writes ≤ 12
+FitsPatch (Lines lines) = ⊥
+FitsPatch Whole = ⊥
 
 -- the log, where there is one
 abbrev pub log_of : Contents → Option (List ByteWrite)

@@ -2,8 +2,9 @@
 //!
 //! A [`Patch`] is what was written to a page, byte by byte: so Difference Engine (Gupta and others, OSDI 2008, section 3.2) keeps a
 //! page that differs in little from another. A [`Log`] is the same, stretch by stretch, with room for more. A [`PatchedFrame`] is a
-//! frame of zeros and a log, until more is written than the log has room for. Then its bytes stand in those lines of the frame that
-//! were written, and all others are zeros.
+//! frame under a page. What is written to a page of zeros is kept as a log beside its frame, until that is more than the log has room
+//! for. Then the page's bytes stand in those lines of the frame that were written, and all others are zeros. A page that gets all of
+//! its bytes at once has them in the frame.
 #![tactic(auto)]
 
 mod law;

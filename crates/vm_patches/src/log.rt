@@ -1,5 +1,5 @@
 // What was written to a page, stretch by stretch.
-ghost use Rattle.std.specs.Prelude.{◌≡◌, ℕ, ◌+◌, ◌<◌, ◌≤◌, ◌++◌, [], All, IfSome, IsTrue, List, length, slice_range};
+ghost use Rattle.std.specs.Prelude.{◌≡◌, ℕ, ◌+◌, ◌<◌, ◌≤◌, ◌++◌, [], All, IsTrue, List, SomeIff, length, slice_range};
 ghost use Rattle.std.specs.Bool.{OnTrue, OnFalse};
 ghost use Rattle.vm_patches.specs.Patches.{overwritten, patched, writes_of, zero_bytes};
 ghost use Rattle.vm_patches.specs.Runs.{length_of, offset_of, total, writes_in, IsWithinPage};
@@ -131,9 +131,9 @@ impl Log {
         (&self.runs[..usize::from(self.count)], &self.bytes)
     }
 
-    // The same writes as a patch, if it has room for them.
+    // The same writes as a patch, exactly where it has room for them.
     pub(crate) fn to_patch(&self) -> Option<Patch>
-        ensures { IfSome result (λ patch. patch ≡ self.now) }
+        ensures { SomeIff result (length self.now ≤ PATCH_BYTES) self.now }
     {
         if usize::from(self.used) > PATCH_BYTES {
             return None;
@@ -143,11 +143,11 @@ impl Log {
     }
 }
 
-// The writes as a patch, if it has room for them.
+// The writes as a patch, exactly where it has room for them.
 fn patch_of(runs: &[Run], written: &[u8]) -> Option<Patch>
     requires within { All IsWithinPage runs.now }
     requires counted { total runs.now ≤ length written.now }
-    ensures { IfSome result (λ patch. patch ≡ writes_in runs.now written.now) }
+    ensures { SomeIff result (total runs.now ≤ PATCH_BYTES) (writes_in runs.now written.now) }
 {
     let mut patch = Patch::new();
     let mut at = 0;

@@ -1,7 +1,7 @@
-ghost use Rattle.std.specs.Prelude.{◌≡◌, ◌+◌, ◌≤◌, [], IfSome, IfNone, length, slice_range};
+ghost use Rattle.std.specs.Prelude.{◌≡◌, ◌+◌, ◌≤◌, ◌↔◌, [], IfSome, IfNone, IsTrue, is_some, length, slice_range};
 ghost use Rattle.std.specs.Bool.{OnTrue, OnFalse};
 ghost use Rattle.vm_patches.specs.Patches.{overwritten, patched, zero_bytes, AreWithin};
-ghost use Rattle.vm_patches.specs.Contents.{blank_where_few, contents_of, log_of, IsWritten};
+ghost use Rattle.vm_patches.specs.Contents.{blank_where_few, contents_of, log_of, FitsPatch, IsWritten};
 ghost use Rattle.vm_patches.specs.declared.patched_frame.Contents.TheVariants.{Few, Whole};
 
 use crate::lines::{LineSet, blank_others, read_lines, write_each, write_lines};
@@ -200,8 +200,9 @@ fn take_few(contents: &mut Contents) -> Option<Log>
     }
 }
 
-// Takes the log, if there is one that a patch has room for, and leaves one that changes nothing.
+// Takes the log, exactly where there is one that a patch has room for, and leaves one that changes nothing.
 fn take_patch(contents: &mut Contents) -> Option<Patch>
+    ensures room { IsTrue (is_some result) ↔ FitsPatch contents.old }
     ensures taken { IfSome result (λ patch. contents.old ≡ Few patch) }
     ensures left { IfSome result (λ patch. contents.new ≡ Few []) }
     ensures none { IfNone result (contents.new ≡ contents.old) }

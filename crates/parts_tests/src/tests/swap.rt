@@ -2,12 +2,14 @@
 ghost use Rattle.std.specs.Prelude.{◌≡◌, ◌+◌, ◌<◌, ◌≤◌, None};
 ghost use Rattle.std.specs.FinMap as map;
 
-use super::check_eq;
 use super::frames::close_machine;
+use super::patches::{Growth, outgrown};
+use super::{check_eq, patches};
+use std::alloc::Global;
 use std::process::Abort;
-use vm_frames::Machine;
-use vm_patches::PatchedFrame;
-use vm_swap::{PAGE_BYTES, SwapArea};
+use vm_frames::{Frame, Machine};
+use vm_patches::{Log, PatchedFrame};
+use vm_swap::{PAGE_BYTES, PAGE_LIMIT, SwapArea};
 
 // The page is there, and each of its bytes is this one.
 fn check_page(rt: &impl Abort, area: &SwapArea, page: u32, byte: u8) {
@@ -160,5 +162,101 @@ fn pages_of_few_bytes_stay_where_an_area_grows(rt: HostRuntime) {
         check_grows(&rt, &mut area, more);
     }
     machine.give(frame.release());
+    close_machine(&rt, machine, 1);
+}
+
+// The page is there, and has these bytes.
+fn check_bytes(rt: &impl Abort, area: &SwapArea, page: u32, wanted: &[u8; PAGE_BYTES]) {
+    let mut buffer = [9; PAGE_BYTES];
+    check_eq(rt, area.get_into(page, &mut buffer), true);
+    check_eq(rt, buffer == *wanted, true);
+}
+
+// Swaps out a page that is not there, where there is room.
+fn save(rt: &impl Abort, area: &mut SwapArea, page: u32, frame: PatchedFrame) -> Frame
+    requires { page < PAGE_LIMIT }
+    ensures { result.number ≡ frame.number }
+{
+    assert!(rt; !area.get_into(page, &mut [1; PAGE_BYTES]));
+    assert!(rt; area.len() < area.capacity());
+    area.save(page, frame)
+}
+
+// Swaps one page in, and out one that is not there, where there is room.
+fn trade(rt: &impl Abort, area: &mut SwapArea, page: u32, other: u32, frame: &mut PatchedFrame)
+    requires { other < PAGE_LIMIT }
+    ensures { frame.new.number ≡ frame.old.number }
+{
+    assert!(rt; !area.get_into(other, &mut [1; PAGE_BYTES]));
+    assert!(rt; area.len() < area.capacity());
+    area.trade(page, other, frame);
+}
+
+// A page that outgrew its log goes out and comes in again, over what the frame's next page has. One that is not there comes in as
+// zeros over that.
+fn check_save(rt: &impl Abort, alloc: Global, frame: Frame, growth: Growth) -> Frame
+    ensures { result.number ≡ frame.number }
+{
+    let mut area = SwapArea::new(alloc, 1).expect(rt, "memory");
+    let (page, wanted) = outgrown(rt, frame, growth);
+    let frame = save(rt, &mut area, 1, page);
+    check_bytes(rt, &area, 1, &wanted);
+    let (mut page, _others) = outgrown(rt, frame, Growth::Bytes);
+    area.load(1, &mut page);
+    patches::check_page(rt, &page, &wanted);
+    check_absent(rt, &area, 1);
+    let (mut page, _others) = outgrown(rt, page.release(), growth);
+    area.load(1, &mut page);
+    patches::check_page(rt, &page, &[0; PAGE_BYTES]);
+    page.release()
+}
+
+// A page that outgrew its log changes places with one that is kept whole, and comes back.
+fn check_trade_whole(rt: &impl Abort, alloc: Global, frame: Frame, growth: Growth) -> Frame
+    ensures { result.number ≡ frame.number }
+{
+    let mut area = SwapArea::new(alloc, 2).expect(rt, "memory");
+    area.put(1, &[5; PAGE_BYTES]);
+    let (mut page, wanted) = outgrown(rt, frame, growth);
+    trade(rt, &mut area, 1, 2, &mut page);
+    check_bytes(rt, &area, 2, &wanted);
+    check_absent(rt, &area, 1);
+    patches::check_page(rt, &page, &[5; PAGE_BYTES]);
+    trade(rt, &mut area, 2, 1, &mut page);
+    check_page(rt, &area, 1, 5);
+    patches::check_page(rt, &page, &wanted);
+    page.release()
+}
+
+// The same with one that is kept as a log.
+fn check_trade_few(rt: &impl Abort, alloc: Global, frame: Frame, growth: Growth) -> Frame
+    ensures { result.number ≡ frame.number }
+{
+    let mut area = SwapArea::new(alloc, 2).expect(rt, "memory");
+    let mut page = PatchedFrame::new(frame);
+    page.set_log(Log::new());
+    page.write(5, &[3]);
+    trade(rt, &mut area, 0, 1, &mut page);
+    let (mut page, wanted) = outgrown(rt, page.release(), growth);
+    trade(rt, &mut area, 1, 2, &mut page);
+    check_bytes(rt, &area, 2, &wanted);
+    check_frame(rt, &page, 4, [0, 3, 0]);
+    trade(rt, &mut area, 2, 1, &mut page);
+    check_byte(rt, &area, 1, 5, 3);
+    patches::check_page(rt, &page, &wanted);
+    page.release()
+}
+
+#[test]
+#[tactic(auto, using(vm_frames::proofs::NumberSets::set_members))]
+fn pages_that_outgrew_their_logs(rt: HostRuntime) {
+    let mut machine = Machine::new(rt.alloc(), 1).expect(&rt, "memory");
+    let frame = machine.take().expect(&rt, "a free frame");
+    let frame = check_save(&rt, rt.alloc(), frame, Growth::Stretches);
+    let frame = check_save(&rt, rt.alloc(), frame, Growth::Bytes);
+    let frame = check_trade_whole(&rt, rt.alloc(), frame, Growth::Stretches);
+    let frame = check_trade_whole(&rt, rt.alloc(), frame, Growth::Bytes);
+    let frame = check_trade_few(&rt, rt.alloc(), frame, Growth::Stretches);
+    machine.give(check_trade_few(&rt, rt.alloc(), frame, Growth::Bytes));
     close_machine(&rt, machine, 1);
 }

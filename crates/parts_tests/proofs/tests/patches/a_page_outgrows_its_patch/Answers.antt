@@ -15,6 +15,6 @@ number f = f.number
 pub give-requires : goal.give-requires
 give-requires g c =
     let again = c.release.ensures ∙ ap number (c.new-page-2.ensures ∙ c.into_frame-frame.ensures) in
-    let same : c.release.result.number ≡ c.expect-frame.result.number = again ∙ ap number c.write-2.ensures ∙ ap number c.write.ensures ∙ ap number c.new-page.ensures in
+    let same : c.release.result.number ≡ c.expect-frame.result.number = again ∙ c.check_no_patch.ensures ∙ ap number c.write-2.ensures ∙ ap number c.write.ensures ∙ ap number c.new-page.ensures in
     let taken : c.take.new.self.out ≡ insert c.expect-machine.result.out c.expect-frame.result.number = search rules in
     rw (same, taken) (is_out _ _)
