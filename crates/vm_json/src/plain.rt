@@ -1,4 +1,5 @@
-// Reading a plain text, which has no escapes, straight from its bytes.
+// Reading a plain text, which has no escapes, straight from its bytes. Memory for an item or a member is asked for once a comma or
+// the closing bracket is seen behind it, so that no more is asked for before a fault than by the reader of tokens.
 ghost use Rattle.std.specs.Prelude.{◌≡◌, ◌<◌, ◌≤◌, ◌++◌, ◌∷◌, ℕ, [], length, map, option_and_then, Some, IfOk, IfSome, OnErr, OnOk};
 ghost use Rattle.json.specs.Json.{array, if_last, value};
 ghost use Rattle.json.specs.Lex.{tokens};
@@ -10,7 +11,7 @@ mod number;
 mod run;
 
 use crate::value::{Value, add, array_of, gather};
-use lexeme::{after, after_blanks, number_at, text_at, text_before, word_at};
+use lexeme::{after, after_blanks, after_item, number_at, text_at, text_before, word_at};
 use std::alloc::{AllocError, Global};
 
 // Why no value was read.
@@ -156,12 +157,13 @@ fn plain_items<'a>(alloc: Global, text: &'a str, depth: usize) -> Result<(Value<
     let mut values = Vec::new(alloc);
     loop {
         let (value, next) = plain_value(alloc, left, depth)?;
+        let (ended, behind) = after_item(b']', next).ok_or(Stop::NotPlain)?;
         gather_value(&mut texts, &mut values, value)?;
-        if let Some(behind) = after(b']', next) {
+        if ended {
             let array = array_of(alloc, texts, values)?;
             return Ok((array, behind));
         }
-        left = after(b',', next).ok_or(Stop::NotPlain)?;
+        left = behind;
     }
 }
 
@@ -183,10 +185,11 @@ fn plain_members<'a>(
     loop {
         let (key, behind_key) = text_before(b':', left).ok_or(Stop::NotPlain)?;
         let (value, next) = plain_value(alloc, behind_key, depth)?;
+        let (ended, behind) = after_item(b'}', next).ok_or(Stop::NotPlain)?;
         add(&mut members, (key, value))?;
-        if let Some(behind) = after(b'}', next) {
+        if ended {
             return Ok((members, behind));
         }
-        left = after(b',', next).ok_or(Stop::NotPlain)?;
+        left = behind;
     }
 }

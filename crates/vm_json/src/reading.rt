@@ -11,7 +11,6 @@ use crate::number::is_in_range;
 use crate::plain::read_plain;
 use crate::value::{Value, read_value};
 use json::{Reader, Scratch};
-use memchr::memchr;
 use std::alloc::Global;
 
 // How deep arrays and objects may nest.
@@ -54,7 +53,7 @@ fn read_json<'a>(
     ensures refused { result ≡ Err NotJson → json_of text.now ≡ None }
     ensures memory { result ≡ Err Memory → 0 < length text.now }
 {
-    if memchr(b'\\', text.as_bytes()).is_none() {
+    if !text.as_bytes().contains(&b'\\') {
         if let Some(value) = read_plain(alloc, text, MAX_DEPTH)? {
             return Ok(value);
         }

@@ -211,7 +211,7 @@ fn plain_values_are_read(rt: HostRuntime) {
 
 #[test]
 fn plain_texts_keep_to_the_grammar(rt: HostRuntime) {
-    let faults: [&[u8]; 24] = [
+    let faults: [&[u8]; 27] = [
         b" ",
         b"[\"a\",]",
         b"[,\"a\"]",
@@ -236,6 +236,9 @@ fn plain_texts_keep_to_the_grammar(rt: HostRuntime) {
         b"{\"a\":1,}",
         b"{\"a\":1 \"b\":2}",
         b"{1:2}",
+        b"[1:2]",
+        b"[[\"a\"]:1]",
+        b"{\"a\":\"b\":1}",
     ];
     check_refused(&rt, Some(ReadError::NotJson), &faults);
 }
@@ -298,28 +301,272 @@ fn last_of_two_plain_members_counts(rt: HostRuntime) {
     check_eq(&rt, whole(number), Some(2));
 }
 
-// Objects within one another.
-fn nested_objects(alloc: Global, depth: usize) -> Result<Vec<u8>, AllocError> {
+// Values within one another, each between this opening and this closing, around what is inside.
+fn nested(
+    alloc: Global,
+    depth: usize,
+    around: (&[u8], &[u8]),
+    inside: &[u8],
+) -> Result<Vec<u8>, AllocError> {
     let mut bytes = Vec::new(alloc);
     for _ in 0..depth {
-        bytes.extend_from_slice(b"{\"\":")?;
+        bytes.extend_from_slice(around.0)?;
     }
-    bytes.extend_from_slice(b"0")?;
+    bytes.extend_from_slice(inside)?;
     for _ in 0..depth {
-        bytes.extend_from_slice(b"}")?;
+        bytes.extend_from_slice(around.1)?;
     }
     Ok(bytes)
 }
 
-#[test]
-fn objects_nest_127_deep(rt: HostRuntime) {
+// Asserts that values between these nest 127 deep, and no deeper.
+fn check_depth(rt: &(impl Abort + AllocGlobal), around: (&[u8], &[u8]), inside: &[u8]) {
     for depth in 126..130 {
-        let bytes = nested_objects(rt.alloc(), depth).expect(&rt, "memory");
+        let bytes = nested(rt.alloc(), depth, around, inside).expect(rt, "memory");
         let wanted = if depth <= 127 {
             None
         } else {
             Some(ReadError::NotJson)
         };
-        check_eq(&rt, refusal(rt.alloc(), &bytes), wanted);
+        check_eq(rt, (depth, refusal(rt.alloc(), &bytes)), (depth, wanted));
+    }
+}
+
+#[test]
+fn objects_nest_127_deep(rt: HostRuntime) {
+    check_depth(&rt, (b"{\"\":", b"}"), b"0");
+}
+
+#[test]
+fn escapes_leave_the_depth_as_it_is(rt: HostRuntime) {
+    let plain: &[u8] = b"\"a\"";
+    let escaped: &[u8] = b"\"\\u0061\"";
+    for inside in [plain, escaped] {
+        check_depth(&rt, (b"[", b"]"), inside);
+        check_depth(&rt, (b" [ \"b\" , ", b" ] "), inside);
+        check_depth(&rt, (b"{\"b\":", b"}"), inside);
+    }
+    check_depth(&rt, (b"{\"\\u0062\":", b"}"), b"0");
+}
+
+fn tell_text(text: &str, out: &mut String) -> Result<(), AllocError> {
+    out.push_str("\"")?;
+    out.push_str(text)?;
+    out.push_str("\"")
+}
+
+fn tell_texts(texts: &[&str], out: &mut String) -> Result<(), AllocError> {
+    out.push_str("T[")?;
+    for text in texts {
+        tell_text(*text, out)?;
+        out.push_str(",")?;
+    }
+    out.push_str("]")
+}
+
+// Tells a value, and of an array also how it is kept: `T` as texts, `V` as values. A comma stands behind each item.
+#[cycle(tell)]
+fn tell(value: &Value<'_>, out: &mut String) -> Result<(), AllocError> {
+    match value {
+        Value::Null => out.push_str("null"),
+        Value::Bool(truth) => out.push_str(if *truth { "true" } else { "false" }),
+        Value::Number(number) => out.push_str(*number),
+        Value::Text(text) => tell_text(*text, out),
+        Value::Texts(texts) => tell_texts(texts, out),
+        Value::Array(values) => tell_values(values, out),
+        Value::Object(members) => tell_members(members, out),
+    }
+}
+
+#[cycle(tell)]
+fn tell_values(values: &[Value<'_>], out: &mut String) -> Result<(), AllocError> {
+    out.push_str("V[")?;
+    for value in values {
+        tell(value, out)?;
+        out.push_str(",")?;
+    }
+    out.push_str("]")
+}
+
+#[cycle(tell)]
+fn tell_members(members: &[(&str, Value<'_>)], out: &mut String) -> Result<(), AllocError> {
+    out.push_str("{")?;
+    for (key, value) in members {
+        tell_text(*key, out)?;
+        out.push_str(":")?;
+        tell(value, out)?;
+        out.push_str(",")?;
+    }
+    out.push_str("}")
+}
+
+// How the value that a text is is told.
+fn told_value(alloc: Global, text: &str) -> Result<String, ReadError> {
+    let mut scratch = Scratch::new(alloc);
+    let value = read(alloc, text.as_bytes(), &mut scratch)?;
+    let mut out = String::new(alloc);
+    tell(&value, &mut out)?;
+    Ok(out)
+}
+
+// What is written, and how that is told once it is read.
+#[derive(Clone, Copy)]
+struct Sample {
+    written: &'static str,
+    told: &'static str,
+}
+
+fn told_as(written: &'static str, told: &'static str) -> Sample {
+    Sample { written, told }
+}
+
+fn same(text: &'static str) -> Sample {
+    told_as(text, text)
+}
+
+fn plain_texts() -> [Sample; 6] {
+    [
+        same("\"\""),
+        same("\"a\""),
+        same("\"],:{\""),
+        same("\"ä😀\""),
+        same("\"abcdefghijklmno\""),
+        same("\"abcdefghijklmnopqrstuvwxyzabcdef\""),
+    ]
+}
+
+// The same, with escapes in the first.
+fn escaped_texts() -> [Sample; 6] {
+    let mut texts = plain_texts();
+    texts[0] = told_as("\"\\u0062\\/\"", "\"b/\"");
+    texts
+}
+
+// Items that are no texts.
+fn others() -> [Sample; 10] {
+    [
+        same("0"),
+        same("-1.5e3"),
+        same("true"),
+        same("null"),
+        same("{}"),
+        told_as("[]", "T[]"),
+        told_as("[\"a\",\"b\"]", "T[\"a\",\"b\",]"),
+        told_as("[\"a\",0,\"b\",{}]", "V[\"a\",0,\"b\",{},]"),
+        told_as("[[\"\\t\"],[]]", "V[T[\"\t\",],T[],]"),
+        told_as(
+            "{\"a\":[\"b\"],\"c\":\"d\"}",
+            "{\"a\":T[\"b\",],\"c\":\"d\",}",
+        ),
+    ]
+}
+
+// What may stand before an array and behind it.
+fn surroundings() -> [(Sample, Sample); 5] {
+    [
+        (same(""), same("")),
+        (same("{\"a\":"), told_as("}", ",}")),
+        (told_as("{\"\\u0061\":", "{\"a\":"), told_as("}", ",}")),
+        (told_as("[", "V["), told_as("]", ",]")),
+        (
+            told_as("[\"\\u0061\",", "V[\"a\","),
+            told_as(",\"b\"]", ",\"b\",]"),
+        ),
+    ]
+}
+
+// As many of the texts, in turn, with the other item in place of one of them, if there is another.
+fn items_of(
+    alloc: Global,
+    texts: [Sample; 6],
+    len: usize,
+    other: Option<(usize, Sample)>,
+) -> Result<Vec<Sample>, AllocError> {
+    let mut items = Vec::new(alloc);
+    for place in 0..len {
+        let item = match other {
+            Some((there, sample)) if there == place => sample,
+            _ => texts[place % 6],
+        };
+        items.push(item)?;
+    }
+    Ok(items)
+}
+
+// The array of these items, with these blanks wherever some may stand.
+fn written_array(alloc: Global, items: &[Sample], blanks: &str) -> Result<String, AllocError> {
+    let mut array = format!(in alloc; "[{blanks}")?;
+    for (place, item) in items.iter().enumerate() {
+        if place > 0 {
+            array.push_str(",")?;
+            array.push_str(blanks)?;
+        }
+        array.push_str(item.written)?;
+        array.push_str(blanks)?;
+    }
+    array.push_str("]")?;
+    Ok(array)
+}
+
+// How the array is told, where it is kept so.
+fn told_array(alloc: Global, items: &[Sample], kept: &str) -> Result<String, AllocError> {
+    let mut told = format!(in alloc; "{kept}[")?;
+    for item in items {
+        told.push_str(item.told)?;
+        told.push_str(",")?;
+    }
+    told.push_str("]")?;
+    Ok(told)
+}
+
+// Asserts how an array is told, whatever stands around it.
+fn check_told(rt: &(impl Abort + AllocGlobal), array: &str, told: &str) {
+    for (before, behind) in surroundings() {
+        let text = format!(in rt.alloc(); "{}{array}{}", before.written, behind.written).expect(
+            rt, "memory",
+        );
+        let wanted = format!(in rt.alloc(); "{}{told}{}", before.told, behind.told).expect(
+            rt, "memory",
+        );
+        let found = told_value(rt.alloc(), &text).expect(rt, "a value");
+        check_eq(
+            rt,
+            (text.as_str(), found.as_str()),
+            (text.as_str(), wanted.as_str()),
+        );
+    }
+}
+
+// Asserts that the array of these items is read as it is written, and kept so.
+fn check_made(rt: &(impl Abort + AllocGlobal), items: &[Sample], kept: &str) {
+    let told = told_array(rt.alloc(), items, kept).expect(rt, "memory");
+    for blanks in ["", " \t\r\n"] {
+        let array = written_array(rt.alloc(), items, blanks).expect(rt, "memory");
+        check_told(rt, &array, &told);
+    }
+}
+
+// The same, of texts with another item at that place.
+fn check_others(rt: &(impl Abort + AllocGlobal), texts: [Sample; 6], len: usize, place: usize) {
+    for other in others() {
+        let items = items_of(rt.alloc(), texts, len, Some((place, other))).expect(rt, "memory");
+        check_made(rt, &items, "V");
+    }
+}
+
+// The same, of texts alone and with another item at each place.
+fn check_texts(rt: &(impl Abort + AllocGlobal), texts: [Sample; 6], len: usize) {
+    let items = items_of(rt.alloc(), texts, len, None).expect(rt, "memory");
+    check_made(rt, &items, "T");
+    for place in 0..len {
+        check_others(rt, texts, len, place);
+    }
+}
+
+#[test]
+fn one_item_that_is_no_text_makes_an_array_of_values(rt: HostRuntime) {
+    for len in 0..18 {
+        check_texts(&rt, plain_texts(), len);
+        check_texts(&rt, escaped_texts(), len);
     }
 }

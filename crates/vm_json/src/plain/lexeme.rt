@@ -1,6 +1,6 @@
 // The lexemes at the front of a plain text, which begins with no blank. Each function passes the blanks behind what it takes.
-ghost use Rattle.std.specs.Prelude.{◌≡◌, ◌<◌, ◌≤◌, ◌||◌, ◌++◌, ◌∷◌, length, true, IfSome};
-ghost use Rattle.json.specs.Lex.{between, lex, operator_lexeme, token};
+ghost use Rattle.std.specs.Prelude.{◌≡◌, ◌<◌, ◌≤◌, ◌||◌, ◌++◌, ◌∷◌, cond, length, true, IfSome};
+ghost use Rattle.json.specs.Lex.{between, comma, lex, operator_lexeme, token};
 ghost use Rattle.json.specs.Token.{number, string};
 ghost use Rattle.json.specs.Word.{ends_word as word_ends, is_operator, is_space};
 
@@ -57,6 +57,21 @@ pub(super) fn after<'a>(operator: u8, text: &'a str) -> Option<&'a str>
 {
     let behind = after_byte(text, operator)?;
     Some(after_blanks(behind))
+}
+
+// What follows the closing bracket or the comma that comes first, and whether it is the bracket.
+#[inline(always)]
+pub(super) fn after_item<'a>(closing: u8, text: &'a str) -> Option<(bool, &'a str)>
+    requires { is_operator closing ≡ true }
+    ensures lexemes { IfSome result (λ found. lex between text.now
+        ≡ cond found.0 (operator_lexeme closing) comma ∷ lex between found.1.now) }
+    ensures shorter { IfSome result (λ found. length found.1.now < length text.now) }
+{
+    if let Some(left) = after(closing, text) {
+        return Some((true, left));
+    }
+    let left = after(b',', text)?;
+    Some((false, left))
 }
 
 // The text that comes first, where it has no escapes, and what follows it.

@@ -1,11 +1,11 @@
-use Rattle.std.proofs.Common.{◌≡◌, ℕ, ◌<◌, ◌∷◌, List, length, map, Option, Some, Ok, Err, Result, sym, ap, subst, ◌∙◌, rules, arith}
+use Rattle.std.proofs.Common.{◌≡◌, ℕ, ◌<◌, ◌∷◌, List, length, map, Bool, true, false, cond, Option, Some, Ok, Err, Result, sym, ap, subst, ◌∙◌, rules, arith}
 use Rattle.std.proofs.lemmas.List.{append-nil}
 use Rattle.std.proofs.lemmas.Simd.{map-map}
 use Rattle.std.specs.Borrow.{Bor}
 use Rattle.std.specs.Prelude.{IfOk, IfSome}
 use Rattle.std.specs.Result.{result_ok}
 use Rattle.json.specs.Json.{Json, array, no_items}
-use Rattle.json.specs.Lex.{token, comma, colon, between, lex}
+use Rattle.json.specs.Lex.{Lexeme, token, comma, colon, between, lex}
 use Rattle.json.specs.Token.{Token}
 use Rattle.json.specs.Value.{items_of}
 use Rattle.vm_json.specs.Plain.{GivesArray, GivesMembers, GivesValue}
@@ -26,6 +26,12 @@ ok_content : {A E : Type 0} (P : A → Type 0) (r : Result A E) (o : Option A) �
 ok_content P (Ok a) o is h = subst (λ q. IfSome q P) is h
 ok_content P (Err e) o is h = tt
 
+-- what stands behind an item, once it is known whether that is the closing bracket
+seen_behind : (next : List ℕ) (closing : Lexeme) (o : Option (Bool × Bor (List ℕ))) (ended : Bool) (behind : Bor (List ℕ)) (is : Bool)
+    → o ≡ Some (ended, behind) → ended ≡ is → IfSome o (λ r. lex between next ≡ cond r.0 closing comma ∷ lex between r.1.now) → lex between next ≡ cond is closing comma ∷ lex between behind.now
+seen_behind next closing o ended behind is found known h =
+    content (λ r. lex between next ≡ cond r.0 closing comma ∷ lex between r.1.now) o (ended, behind) found h ∙ ap (λ b. cond b closing comma ∷ lex between behind.now) known
+
 pub plain_items-returns-in-Some-clause-value : goal.plain_items-returns-in-Some-clause-value
 plain_items-returns-in-Some-clause-value t c =
     let seen : value_view (Texts c.new.result) ≡ array no_items = view-Texts c.new.result ∙ ap (λ ts. array (items_of (texts_view ts))) c.new.ensures.items in
@@ -43,27 +49,28 @@ plain_items-loop-values-init t c =
       c.in_ok-texts.ensures.shorter,
     )
 
-pub plain_items-returns-in-Some-after-clause-value : goal.plain_items-returns-in-Some-after-clause-value
-plain_items-returns-in-Some-after-clause-value t c =
+pub plain_items-returns-then-ended-clause-value : goal.plain_items-returns-then-ended-clause-value
+plain_items-returns-then-ended-clause-value t c =
     let l = c.loop-values in
     let read = c.in_ok-value in
+    let end = c.in_ok-ended in
     let before = gathered l.texts.items l.values.items in
     let after = gathered c.gather_value.new.texts.items c.gather_value.new.values.items in
-    let behind = c.in-Some-after.behind.now in
-    subst (λ j. GivesArray c.args.depth c.args.text.now j behind) (sym c.in_ok-array.ensures.ok)
-    (items_ended c.args.depth c.args.text.now before l.left.now (value_view read.value) read.next.now behind after l.invariant.1 read.ensures.value c.in-Some-after.ensures.lexemes c.in_ok-gather_value.ensures.ok)
+    let ending = seen_behind read.next.now (token Token.end_array) c.after_item.result end.ended end.behind true end.ensures.ok_part c.if-ended.true c.after_item.ensures.lexemes in
+    subst (λ j. GivesArray c.args.depth c.args.text.now j end.behind.now) (sym c.in_ok-array.ensures.ok)
+    (items_ended c.args.depth c.args.text.now before l.left.now (value_view read.value) read.next.now end.behind.now after l.invariant.1 read.ensures.value ending c.in_ok-gather_value.ensures.ok)
 
 pub plain_items-loop-values-preserved : goal.plain_items-loop-values-preserved
 plain_items-loop-values-preserved t c =
     let l = c.loop-values in
     let read = c.in_ok-value in
+    let end = c.in_ok-ended in
     let before = gathered l.texts.items l.values.items in
     let after = gathered c.gather_value.new.texts.items c.gather_value.new.values.items in
-    let behind = c.in_ok-left.left.now in
-    let going = content (λ r. lex between read.next.now ≡ comma ∷ lex between r.now) c.after-in-loop-values-2.result c.in_ok-left.left c.in_ok-left.ensures.ok_part c.after-in-loop-values-2.ensures.lexemes in
-    let shorter = content (λ r. length r.now < length read.next.now) c.after-in-loop-values-2.result c.in_ok-left.left c.in_ok-left.ensures.ok_part c.after-in-loop-values-2.ensures.shorter in (
+    let going = seen_behind read.next.now (token Token.end_array) c.after_item.result end.ended end.behind false end.ensures.ok_part c.if-ended.false c.after_item.ensures.lexemes in
+    let shorter = content (λ r. length r.1.now < length read.next.now) c.after_item.result (end.ended, end.behind) end.ensures.ok_part c.after_item.ensures.shorter in (
       search rules,
-      item_added c.args.depth c.args.text.now before l.left.now (value_view read.value) read.next.now behind after l.invariant.1 read.ensures.value going c.in_ok-gather_value.ensures.ok,
+      item_added c.args.depth c.args.text.now before l.left.now (value_view read.value) read.next.now end.behind.now after l.invariant.1 read.ensures.value going c.in_ok-gather_value.ensures.ok,
       omega (arith, shorter, read.ensures.shorter, l.invariant.2),
     )
 
@@ -79,28 +86,30 @@ plain_members-loop-members-init t c =
       omega arith,
     )
 
-pub plain_members-returns-in-Some-after-clause-value : goal.plain_members-returns-in-Some-after-clause-value
-plain_members-returns-in-Some-after-clause-value t c =
+pub plain_members-returns-then-ended-clause-value : goal.plain_members-returns-then-ended-clause-value
+plain_members-returns-then-ended-clause-value t c =
     let l = c.loop-members in
     let read = c.in_ok-value in
+    let end = c.in_ok-ended in
     let key = c.in_ok-key.key in
     let inside = c.in_ok-key.behind_key in
     let named = content (λ r. lex between l.left.now ≡ token (Token.string r.0.now) ∷ colon ∷ lex between r.1.now) c.text_before.result (key, inside) c.in_ok-key.ensures.ok_part c.text_before.ensures.lexemes in
-    members_ended c.args.depth c.args.text.now l.members.items l.left.now (key, read.value) inside.now read.next.now c.in-Some-after.behind.now c.add.new.items.items l.invariant.1 named read.ensures.value c.in-Some-after.ensures.lexemes c.in_ok-add.ensures.ok
+    let ending = seen_behind read.next.now (token Token.end_object) c.after_item.result end.ended end.behind true end.ensures.ok_part c.if-ended.true c.after_item.ensures.lexemes in
+    members_ended c.args.depth c.args.text.now l.members.items l.left.now (key, read.value) inside.now read.next.now end.behind.now c.add.new.items.items l.invariant.1 named read.ensures.value ending c.in_ok-add.ensures.ok
 
 pub plain_members-loop-members-preserved : goal.plain_members-loop-members-preserved
 plain_members-loop-members-preserved t c =
     let l = c.loop-members in
     let read = c.in_ok-value in
+    let end = c.in_ok-ended in
     let key = c.in_ok-key.key in
     let inside = c.in_ok-key.behind_key in
     let named = content (λ r. lex between l.left.now ≡ token (Token.string r.0.now) ∷ colon ∷ lex between r.1.now) c.text_before.result (key, inside) c.in_ok-key.ensures.ok_part c.text_before.ensures.lexemes in
     let shorter_key = content (λ r. length r.1.now < length l.left.now) c.text_before.result (key, inside) c.in_ok-key.ensures.ok_part c.text_before.ensures.shorter in
-    let behind = c.in_ok-left.left in
-    let going = content (λ r. lex between read.next.now ≡ comma ∷ lex between r.now) c.after-in-loop-members-2.result behind c.in_ok-left.ensures.ok_part c.after-in-loop-members-2.ensures.lexemes in
-    let shorter = content (λ r. length r.now < length read.next.now) c.after-in-loop-members-2.result behind c.in_ok-left.ensures.ok_part c.after-in-loop-members-2.ensures.shorter in (
+    let going = seen_behind read.next.now (token Token.end_object) c.after_item.result end.ended end.behind false end.ensures.ok_part c.if-ended.false c.after_item.ensures.lexemes in
+    let shorter = content (λ r. length r.1.now < length read.next.now) c.after_item.result (end.ended, end.behind) end.ensures.ok_part c.after_item.ensures.shorter in (
       search rules,
-      member_added c.args.depth c.args.text.now l.members.items l.left.now (key, read.value) inside.now read.next.now behind.now c.add.new.items.items l.invariant.1 named read.ensures.value going c.in_ok-add.ensures.ok,
+      member_added c.args.depth c.args.text.now l.members.items l.left.now (key, read.value) inside.now read.next.now end.behind.now c.add.new.items.items l.invariant.1 named read.ensures.value going c.in_ok-add.ensures.ok,
       omega (arith, shorter, shorter_key, read.ensures.shorter, l.invariant.2),
     )
 
