@@ -4,6 +4,7 @@ mod ends;
 mod hosts;
 mod limits;
 mod marks;
+mod schedule;
 mod series;
 mod setup;
 mod system;

@@ -6,6 +6,7 @@ use Rattle.vm_config.specs.declared.config.Config.{Config}
 use Rattle.std.specs.Io.KnownBytes.{Appends}
 use Rattle.vm_sim.specs.Streams.{AppendsFront}
 use Rattle.vm_reclaim.specs.Policy.{policy_of}
+use Rattle.vm_sim.specs.Calendar.{RunAgenda, course_asked}
 use Rattle.vm_sim.specs.declared.agenda.Agenda.{Agenda}
 use Rattle.vm_sim.specs.Course.{Course, after_boundary, agenda_of, course_from, lines_for, next_world, world_after, world_in}
 use Rattle.vm_sim.specs.Report.{report_in, report_of, told_at, told_in_epoch}
@@ -46,31 +47,31 @@ module _ (epochs : ℕ) (agenda : Agenda) (first : World) where
 
 -- ---- a new host has the course of its configuration
 
-module _ (c : Config) (agenda : Agenda) (asks : agenda ≡ agenda_of c) (w : World) (is : w ≡ first_world c.machine c.domains) where
-  pub world_of_new : (host : World) → host ≡ world_in (course_from c.epochs agenda w) c.epochs → host ≡ world_after c c.epochs
-  world_of_new host after = after ∙ λ i. world_in (course_from c.epochs (asks i) (is i)) c.epochs
+module _ (c : Config) (asked : RunAgenda) (asks : asked ≡ record { agenda = agenda_of c; epochs = c.epochs }) (w : World) (is : w ≡ first_world c.machine c.domains) where
+  pub world_of_new : (host : World) → host ≡ world_in (course_asked asked w) asked.epochs → host ≡ world_after c c.epochs
+  world_of_new host after = after ∙ λ i. world_in (course_asked (asks i) (is i)) (asks i).epochs
 
-  report_of_new : report_in (course_from c.epochs agenda w) ≡ report_of c
-  report_of_new = λ i. report_in (course_from c.epochs (asks i) (is i))
+  report_of_new : report_in (course_asked asked w) ≡ report_of c
+  report_of_new = λ i. report_in (course_asked (asks i) (is i))
 
-  pub written_of_new : (x y : Option (List ℕ)) → Appends x y (report_in (course_from c.epochs agenda w)) → Appends x y (report_of c)
+  pub written_of_new : (x y : Option (List ℕ)) → Appends x y (report_in (course_asked asked w)) → Appends x y (report_of c)
   written_of_new x y written = subst (λ (text : List ℕ). Appends x y text) report_of_new written
 
-  pub front_of_new : (x y : Option (List ℕ)) → AppendsFront x y (report_in (course_from c.epochs agenda w)) → AppendsFront x y (report_of c)
+  pub front_of_new : (x y : Option (List ℕ)) → AppendsFront x y (report_in (course_asked asked w)) → AppendsFront x y (report_of c)
   front_of_new x y front = subst (λ (text : List ℕ). AppendsFront x y text) report_of_new front
 
   -- the same of a run that may have failed
-  pub world_of_run : {E : Type 0} (r : Result World E) → IfOk r (λ host. host ≡ world_in (course_from c.epochs agenda w) c.epochs)
+  pub world_of_run : {E : Type 0} (r : Result World E) → IfOk r (λ host. host ≡ world_in (course_asked asked w) asked.epochs)
       → IfOk r (λ host. host ≡ world_after c c.epochs)
   world_of_run (Ok host) after = world_of_new host after
   world_of_run (Err e) after = tt
 
-  pub written_of_run : {T E : Type 0} (r : Result T E) (x y : Option (List ℕ)) → OnOk r (Appends x y (report_in (course_from c.epochs agenda w)))
+  pub written_of_run : {T E : Type 0} (r : Result T E) (x y : Option (List ℕ)) → OnOk r (Appends x y (report_in (course_asked asked w)))
       → IfOk r (λ _. Appends x y (report_of c))
   written_of_run (Ok host) x y written = written_of_new x y written
   written_of_run (Err e) x y written = tt
 
-  pub front_of_run : {T E : Type 0} (r : Result T E) (x y : Option (List ℕ)) → OnErr r (AppendsFront x y (report_in (course_from c.epochs agenda w)))
+  pub front_of_run : {T E : Type 0} (r : Result T E) (x y : Option (List ℕ)) → OnErr r (AppendsFront x y (report_in (course_asked asked w)))
       → OnErr r (AppendsFront x y (report_of c))
   front_of_run (Ok host) x y front = tt
   front_of_run (Err e) x y front = front_of_new x y front

@@ -1,5 +1,5 @@
 // What is asked of a host in its boundaries.
-ghost use Rattle.std.specs.Prelude.{◌≡◌, ◌++◌, ◌∷◌, [], IfOk, OnOk, false, slice_get, unwrap_or};
+ghost use Rattle.std.specs.Prelude.{◌≡◌, ◌++◌, ◌∷◌, ◌<◌, [], IfOk, OnOk, false, slice_get, unwrap_or};
 ghost use Rattle.vm_sim.specs.Course.{autostart_lines, lines_for, lines_of_epoch, start_line};
 ghost use Rattle.vm_sim.specs.Report.{name_at};
 
@@ -12,23 +12,7 @@ use vm_host::{Host, Lines};
 #[derive(Drop)]
 pub(crate) struct Agenda {
     pub(crate) autostart: Autostart,
-    pub(crate) commands: Calendar,
-}
-
-impl Agenda {
-    pub(crate) fn new(
-        alloc: Global,
-        autostart: Autostart,
-        commands: Schedule,
-    ) -> Result<Self, AllocError>
-        ensures { IfOk result (λ agenda. agenda ≡ record { autostart = autostart; commands = commands }) }
-    {
-        let commands = Calendar::new(alloc, commands)?;
-        Ok(Agenda {
-            autostart,
-            commands,
-        })
-    }
+    pub(crate) commands: Schedule,
 }
 
 // The line that starts the domain at a position.
@@ -70,13 +54,15 @@ fn push_starts(
 }
 
 // The lines of an epoch, in the order of the configuration. It looks at no command of another one.
-fn push_commands(number: u32, commands: &Calendar, lines: &mut Lines) -> Result<(), AllocError>
-    ensures { OnOk result (lines.new ≡ lines.old ++ lines_of_epoch number commands.now) }
+fn push_commands(number: u32, calendar: &Calendar, lines: &mut Lines) -> Result<(), AllocError>
+    requires { number < calendar.now.epochs }
+    ensures { OnOk result (lines.new ≡ lines.old ++ lines_of_epoch number calendar.now.agenda.commands) }
 {
-    let mut position = commands.first_of(number);
-    while position < commands.lines().len() {
-        lines.push(commands.lines()[position].line())?;
-        position = commands.next_of(position);
+    let commands = calendar.agenda().commands.lines();
+    let mut position = calendar.first_of(number);
+    while position < commands.len() {
+        lines.push(commands[position].line())?;
+        position = calendar.next_of(position);
     }
     Ok(())
 }
@@ -85,15 +71,16 @@ fn push_commands(number: u32, commands: &Calendar, lines: &mut Lines) -> Result<
 pub(crate) fn lines_for(
     alloc: Global,
     host: &Host,
-    agenda: &Agenda,
+    calendar: &Calendar,
     number: u32,
 ) -> Result<Lines, AllocError>
-    ensures { IfOk result (λ lines. lines ≡ lines_for host.now.names agenda.now number) }
+    requires { number < calendar.now.epochs }
+    ensures { IfOk result (λ lines. lines ≡ lines_for host.now.names calendar.now.agenda number) }
 {
     let mut lines = Lines::new(alloc);
     if number == 0 {
-        push_starts(alloc, host, agenda.autostart.flags(), &mut lines)?;
+        push_starts(alloc, host, calendar.agenda().autostart.flags(), &mut lines)?;
     }
-    push_commands(number, &agenda.commands, &mut lines)?;
+    push_commands(number, calendar, &mut lines)?;
     Ok(lines)
 }

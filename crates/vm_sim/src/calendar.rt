@@ -1,110 +1,153 @@
 // The commands of a run by their epochs, so that a boundary looks at its own commands alone.
-ghost use Rattle.std.specs.Prelude.{◌≡◌, ◌≢◌, ◌<◌, ℕ, suc, [], IfOk, IfSome, OnOk, length, slice_get, slice_index_or};
-ghost use Rattle.vm_sim.specs.Calendar.{IsCalendar, IsNextOf};
+ghost use Rattle.std.specs.Prelude.{◌≡◌, ◌<◌, ◌≤◌, ◌+◌, ℕ, suc, length, max, IfOk, IfSome, replicate, slice_get};
+ghost use Rattle.vm_sim.specs.Calendar.{HaveRoom, IsCalendar, IsNextOf};
 
+use crate::agenda::Agenda;
 use std::alloc::{AllocError, Global};
 use std::marker::Model;
-use vm_config::{Schedule, Scheduled};
+use std::mem;
+use vm_config::Scheduled;
 
-// The commands of a run, with those of each epoch at hand. A clause reads them as a list, in the order of the configuration.
+// What is asked of the host of a run, with the commands of each epoch at hand. Those that never run take no room.
 #[derive(Drop)]
 pub(crate) struct Calendar {
-    commands: Schedule,
-    // Where the first command of each epoch stands.
+    agenda: Agenda,
+    epochs: u32,
+    // Where the first command of each epoch stands, up to the last epoch with commands.
     first: Vec<usize>,
-    // Where the next command of the same epoch stands, for each command.
+    // Where the next command of the same epoch stands, for each command up to the last one that runs.
     next: Vec<usize>,
 }
 
 impl Model for Calendar {
-    ghost use Rattle.std.specs.Prelude.{List};
-    ghost use Rattle.vm_config.specs.Schedule.{ScheduledLine};
-    ghost use Rattle.vm_sim.specs.Calendar.{IsCalendar};
+    ghost use Rattle.vm_sim.specs.Calendar.{IsCalendar, RunAgenda};
 
-    ghost Value = { List ScheduledLine };
+    ghost Value = { RunAgenda };
 
-    ghost view = { λ c. c.commands };
+    ghost view = { λ c. record { agenda = c.agenda; epochs = c.epochs } };
 
-    ghost invariant = { λ c. IsCalendar 0 c.commands c.first.items c.next.items };
+    ghost invariant = { λ c. IsCalendar c.epochs 0 c.agenda.commands c.first.items c.next.items };
 }
 
-// Puts a command before the others of its epoch, and returns where the first of them stood.
-fn put_first(
-    first: &mut Vec<usize>,
-    epoch: u32,
-    position: usize,
-    end: usize,
-) -> Result<usize, AllocError>
-    ensures stood { IfOk result (λ stood. stood ≡ slice_index_or first.old.items epoch end) }
-    ensures stands { OnOk result (slice_index_or first.new.items epoch end ≡ position) }
-    ensures others { OnOk result ((k : ℕ) → k ≢ epoch
-        → slice_index_or first.new.items k end ≡ slice_index_or first.old.items k end) }
+// For how many epochs and commands there is room.
+#[derive(Clone, Copy)]
+struct Room {
+    epochs: usize,
+    commands: usize,
+}
+
+// The room with a place for one command more, which is the last of so many. One that never runs needs none.
+fn more_room(room: Room, command: &Scheduled, count: usize, epochs: u32) -> Room
+    ensures runs { command.now.at < epochs
+        → (result.epochs ≡ max room.epochs (command.now.at + 1)) × (result.commands ≡ count) }
+    ensures never_runs { epochs ≤ command.now.at → result ≡ room }
 {
-    let epoch = epoch as usize;
-    if epoch >= first.len() {
-        first.resize(epoch + 1, end)?;
+    let epoch = command.at();
+    if epoch >= epochs {
+        return room;
     }
-    let stood = first[epoch];
-    first[epoch] = position;
-    Ok(stood)
+    Room {
+        epochs: room.epochs.max(epoch as usize + 1),
+        commands: count,
+    }
+}
+
+// The least room in which all commands that run have their places.
+fn room_for(commands: &[Scheduled], epochs: u32) -> Room
+    ensures enough { HaveRoom epochs commands.now (length commands.now) result.epochs result.commands }
+    ensures least { (rooms places : ℕ) → HaveRoom epochs commands.now (length commands.now) rooms places
+        → (result.epochs ≤ rooms) × (result.commands ≤ places) }
+{
+    let mut room = Room {
+        epochs: 0,
+        commands: 0,
+    };
+    for (position, command) in commands.iter().enumerate() {
+        room = more_room(room, command, position + 1, epochs);
+    }
+    room
+}
+
+// Puts a command before the others of its epoch. One that never runs is passed over.
+fn put_command(
+    commands: &[Scheduled],
+    epochs: u32,
+    position: usize,
+    first: &mut [usize],
+    next: &mut [usize],
+)
+    requires within { position < length commands.now }
+    requires found { IsCalendar epochs (suc position) commands.now first.old next.old }
+    ensures { IsCalendar epochs position commands.now first.new next.new }
+{
+    let epoch = commands[position].at();
+    if epoch >= epochs {
+        return;
+    }
+    next[position] = mem::replace(&mut first[epoch as usize], position);
 }
 
 // Finds where the commands of each epoch stand, from the last command to the first one.
-fn find_commands(
-    commands: &[Scheduled],
-    first: &mut Vec<usize>,
-    next: &mut Vec<usize>,
-) -> Result<(), AllocError>
-    requires none { first.old.items ≡ [] }
-    ensures { OnOk result (IsCalendar 0 commands.now first.new.items next.new.items) }
+fn find_commands(commands: &[Scheduled], epochs: u32, first: &mut [usize], next: &mut [usize])
+    requires none { first.old ≡ replicate (length first.old) (length commands.now) }
+    requires room { HaveRoom epochs commands.now (length commands.now) (length first.old) (length next.old) }
+    ensures { IsCalendar epochs 0 commands.now first.new next.new }
 {
-    let end = commands.len();
-    next.resize(end, 0)?;
-    let mut position = end;
+    let mut position = commands.len();
     while position > 0 {
         position -= 1;
-        let epoch = commands[position].at();
-        next[position] = put_first(first, epoch, position, end)?;
+        put_command(commands, epochs, position, first, next);
     }
-    Ok(())
 }
 
 impl Calendar {
-    // Each command costs constant time, and so does each epoch up to the last one that has commands.
-    pub(crate) fn new(alloc: Global, commands: Schedule) -> Result<Self, AllocError>
-        ensures { IfOk result (λ calendar. calendar ≡ commands) }
+    // Each command costs constant time, and so does each epoch up to the last one with commands. Each list is asked for once, with
+    // just its room, and where no command runs nothing is.
+    pub(crate) fn new(alloc: Global, agenda: Agenda, epochs: u32) -> Result<Self, AllocError>
+        ensures { IfOk result (λ calendar. calendar ≡ record { agenda = agenda; epochs = epochs }) }
     {
-        let mut first = Vec::new(alloc);
-        let mut next = Vec::new(alloc);
-        find_commands(commands.lines(), &mut first, &mut next)?;
+        let commands = agenda.commands.lines();
+        let room = room_for(commands, epochs);
+        let mut first = vec![in alloc; commands.len(); room.epochs]?;
+        let mut next = vec![in alloc; commands.len(); room.commands]?;
+        find_commands(commands, epochs, &mut first, &mut next);
         Ok(Calendar {
-            commands,
+            agenda,
+            epochs,
             first,
             next,
         })
     }
 
-    // The commands, in the order of the configuration.
-    pub(crate) fn lines(&self) -> &[Scheduled]
-        ensures { result.now ≡ self.now }
+    // The domains that start by themselves, and the commands in the order of the configuration.
+    pub(crate) fn agenda(&self) -> &Agenda
+        ensures { result.now ≡ self.now.agenda }
     {
-        self.commands.lines()
+        &self.agenda
+    }
+
+    // How many epochs the run has.
+    pub(crate) fn epochs(&self) -> u32
+        ensures { result ≡ self.now.epochs }
+    {
+        self.epochs
     }
 
     // Where the first command of an epoch stands. Where there is none, that is past the end.
     pub(crate) fn first_of(&self, epoch: u32) -> usize
-        ensures { IsNextOf epoch self.now 0 result }
+        requires { epoch < self.now.epochs }
+        ensures { IsNextOf epoch self.now.agenda.commands 0 result }
     {
-        let end = self.commands.lines().len();
+        let end = self.agenda.commands.lines().len();
         self.first.get(epoch as usize).copied().unwrap_or(end)
     }
 
-    // Where the next command of the same epoch stands behind the one at a position. Where there is none, that is past the end.
+    // Where the next command of the same epoch stands behind one that runs. Where there is none, that is past the end.
     pub(crate) fn next_of(&self, position: usize) -> usize
-        requires { position < length self.now }
-        ensures { IfSome (slice_get self.now position)
-            (λ command. IsNextOf command.at self.now (suc position) result) }
+        ensures { IfSome (slice_get self.now.agenda.commands position)
+            (λ command. command.at < self.now.epochs → IsNextOf command.at self.now.agenda.commands (suc position) result) }
     {
-        self.next[position]
+        let end = self.agenda.commands.lines().len();
+        self.next.get(position).copied().unwrap_or(end)
     }
 }

@@ -5,13 +5,15 @@ ghost use Rattle.vm_host.specs.declared.phase.Phase.TheVariants.{Ready, Waiting}
 ghost use Rattle.vm_host.specs.Epoch.{after_epoch};
 ghost use Rattle.vm_reclaim.specs.Policy.{policy_of};
 ghost use Rattle.vm_sim.specs.declared.run_error.RunError.TheVariants.{Memory, Read, Workers, Write};
-ghost use Rattle.vm_sim.specs.Course.{after_boundary, course_from, lines_for, next_world, told_by_boundary, world_after, world_in};
+ghost use Rattle.vm_sim.specs.Calendar.{course_asked};
+ghost use Rattle.vm_sim.specs.Course.{after_boundary, lines_for, next_world, told_by_boundary, world_after, world_in};
 ghost use Rattle.vm_sim.specs.Headline.{AddsUp, ReadsLastWrites, RevokesFairly};
 ghost use Rattle.vm_sim.specs.Report.{boundary_told, epoch_text, report_in, report_of, told_in_epoch};
 ghost use Rattle.vm_sim.specs.Run.{CutShort, Fails, NewlyFailed, RunsConfig};
 ghost use Rattle.vm_sim.specs.Streams.{AppendsFront};
 
 use crate::agenda::{Agenda, lines_for};
+use crate::calendar::Calendar;
 use crate::crew::Crew;
 use crate::input::read_text;
 use crate::law::law_runs;
@@ -40,17 +42,18 @@ pub(crate) fn boundary(alloc: Global, host: &mut Host, lines: &Lines) -> Result<
 pub(crate) fn boundary_before(
     alloc: Global,
     number: u32,
-    agenda: &Agenda,
+    calendar: &Calendar,
     host: &mut Host,
 ) -> Result<Boundary, RunError>
+    requires { number < calendar.now.epochs }
     ensures host { OnOk result (host.new
-        ≡ after_boundary (policy_of host.old.machine) (lines_for host.old.names agenda.now number) host.old) }
+        ≡ after_boundary (policy_of host.old.machine) (lines_for host.old.names calendar.now.agenda number) host.old) }
     ensures told { IfOk result (λ told. told
-        ≡ told_by_boundary (policy_of host.old.machine) (lines_for host.old.names agenda.now number) host.old) }
+        ≡ told_by_boundary (policy_of host.old.machine) (lines_for host.old.names calendar.now.agenda number) host.old) }
     ensures ready { OnOk result (host.new.phase ≡ Ready) }
     ensures memory { IfErr result (λ error. error ≡ Memory) }
 {
-    let lines = lines_for(alloc, host, agenda, number)?;
+    let lines = lines_for(alloc, host, calendar, number)?;
     let boundary = boundary(alloc, host, &lines)?;
     Ok(boundary)
 }
@@ -60,17 +63,18 @@ pub(crate) fn boundary_before(
 fn text_of_boundary(
     alloc: Global,
     number: u32,
-    agenda: &Agenda,
+    calendar: &Calendar,
     host: &mut Host,
 ) -> Result<String, RunError>
+    requires { number < calendar.now.epochs }
     ensures host { OnOk result (host.new
-        ≡ after_boundary (policy_of host.old.machine) (lines_for host.old.names agenda.now number) host.old) }
+        ≡ after_boundary (policy_of host.old.machine) (lines_for host.old.names calendar.now.agenda number) host.old) }
     ensures ready { OnOk result (host.new.phase ≡ Ready) }
     ensures told { IfOk result (λ text. string_bytes text
-        ≡ boundary_told number (policy_of host.old.machine) (lines_for host.old.names agenda.now number) host.old) }
+        ≡ boundary_told number (policy_of host.old.machine) (lines_for host.old.names calendar.now.agenda number) host.old) }
     ensures memory { IfErr result (λ error. error ≡ Memory) }
 {
-    let boundary = boundary_before(alloc, number, agenda, host)?;
+    let boundary = boundary_before(alloc, number, calendar, host)?;
     let text = boundary_text(alloc, number, host, &boundary)?;
     Ok(text)
 }
@@ -90,21 +94,22 @@ fn write_told<W: Sink>(writer: &mut W, text: String) -> Result<(), RunError>
 fn tell_boundary<W: Sink>(
     alloc: Global,
     number: u32,
-    agenda: &Agenda,
+    calendar: &Calendar,
     host: &mut Host,
     writer: &mut W,
 ) -> Result<(), RunError>
+    requires { number < calendar.now.epochs }
     ensures host { OnOk result (host.new
-        ≡ after_boundary (policy_of host.old.machine) (lines_for host.old.names agenda.now number) host.old) }
+        ≡ after_boundary (policy_of host.old.machine) (lines_for host.old.names calendar.now.agenda number) host.old) }
     ensures ready { OnOk result (host.new.phase ≡ Ready) }
     ensures written { OnOk result (Appends (W.contents writer.old) (W.contents writer.new)
-        (boundary_told number (policy_of host.old.machine) (lines_for host.old.names agenda.now number) host.old)) }
+        (boundary_told number (policy_of host.old.machine) (lines_for host.old.names calendar.now.agenda number) host.old)) }
     ensures front { OnErr result (AppendsFront (W.contents writer.old) (W.contents writer.new)
-        (boundary_told number (policy_of host.old.machine) (lines_for host.old.names agenda.now number) host.old)) }
+        (boundary_told number (policy_of host.old.machine) (lines_for host.old.names calendar.now.agenda number) host.old)) }
     ensures stays { OnOk result (W.has_failed writer.new ≡ W.has_failed writer.old) }
     ensures cause { IfErr result (CutShort (W.has_failed writer.old) (W.has_failed writer.new)) }
 {
-    let text = text_of_boundary(alloc, number, agenda, host)?;
+    let text = text_of_boundary(alloc, number, calendar, host)?;
     write_told(writer, text)?;
     Ok(())
 }
@@ -137,20 +142,21 @@ fn epoch<RT: Threads + Sync, G: Gate + Sync, W: Sink>(
     alloc: Global,
     crew: &Crew<'_, RT, G>,
     number: u32,
-    agenda: &Agenda,
+    calendar: &Calendar,
     host: &mut Host,
     writer: &mut W,
 ) -> Result<(), RunError>
+    requires { number < calendar.now.epochs }
     ensures host { OnOk result (host.new
-        ≡ next_world (policy_of host.old.machine) (lines_for host.old.names agenda.now number) host.old) }
+        ≡ next_world (policy_of host.old.machine) (lines_for host.old.names calendar.now.agenda number) host.old) }
     ensures written { OnOk result (Appends (W.contents writer.old) (W.contents writer.new)
-        (told_in_epoch number (policy_of host.old.machine) (lines_for host.old.names agenda.now number) host.old)) }
+        (told_in_epoch number (policy_of host.old.machine) (lines_for host.old.names calendar.now.agenda number) host.old)) }
     ensures front { OnErr result (AppendsFront (W.contents writer.old) (W.contents writer.new)
-        (told_in_epoch number (policy_of host.old.machine) (lines_for host.old.names agenda.now number) host.old)) }
+        (told_in_epoch number (policy_of host.old.machine) (lines_for host.old.names calendar.now.agenda number) host.old)) }
     ensures stays { OnOk result (W.has_failed writer.new ≡ W.has_failed writer.old) }
     ensures cause { IfErr result (CutShort (W.has_failed writer.old) (W.has_failed writer.new)) }
 {
-    tell_boundary(alloc, number, agenda, host, writer)?;
+    tell_boundary(alloc, number, calendar, host, writer)?;
     tell_epoch(alloc, crew, host, writer)?;
     Ok(())
 }
@@ -160,21 +166,20 @@ fn epoch<RT: Threads + Sync, G: Gate + Sync, W: Sink>(
 fn tell<RT: Threads + Sync, G: Gate + Sync, W: Sink>(
     alloc: Global,
     crew: &Crew<'_, RT, G>,
-    epochs: u32,
-    agenda: &Agenda,
+    calendar: &Calendar,
     host: &mut Host,
     writer: &mut W,
 ) -> Result<(), RunError>
-    ensures host { OnOk result (host.new ≡ world_in (course_from epochs agenda.now host.old) epochs) }
+    ensures host { OnOk result (host.new ≡ world_in (course_asked calendar.now host.old) calendar.now.epochs) }
     ensures written { OnOk result (Appends (W.contents writer.old) (W.contents writer.new)
-        (report_in (course_from epochs agenda.now host.old))) }
+        (report_in (course_asked calendar.now host.old))) }
     ensures front { OnErr result (AppendsFront (W.contents writer.old) (W.contents writer.new)
-        (report_in (course_from epochs agenda.now host.old))) }
+        (report_in (course_asked calendar.now host.old))) }
     ensures stays { OnOk result (W.has_failed writer.new ≡ W.has_failed writer.old) }
     ensures cause { IfErr result (CutShort (W.has_failed writer.old) (W.has_failed writer.new)) }
 {
-    for number in 0..epochs {
-        epoch(alloc, crew, number, agenda, host, writer)?;
+    for number in 0..calendar.epochs() {
+        epoch(alloc, crew, number, calendar, host, writer)?;
     }
     let told = end_text(alloc, host)?;
     write_told(writer, told)?;
@@ -185,21 +190,20 @@ fn tell<RT: Threads + Sync, G: Gate + Sync, W: Sink>(
 fn run_to_end<RT: Threads + Sync, G: Gate + Sync, W: Sink>(
     alloc: Global,
     crew: &Crew<'_, RT, G>,
-    epochs: u32,
-    agenda: &Agenda,
+    calendar: &Calendar,
     host: Host,
     writer: &mut W,
 ) -> Result<Host, RunError>
-    ensures host { IfOk result (λ left. left ≡ world_in (course_from epochs agenda.now host) epochs) }
+    ensures host { IfOk result (λ left. left ≡ world_in (course_asked calendar.now host) calendar.now.epochs) }
     ensures written { OnOk result (Appends (W.contents writer.old) (W.contents writer.new)
-        (report_in (course_from epochs agenda.now host))) }
+        (report_in (course_asked calendar.now host))) }
     ensures front { OnErr result (AppendsFront (W.contents writer.old) (W.contents writer.new)
-        (report_in (course_from epochs agenda.now host))) }
+        (report_in (course_asked calendar.now host))) }
     ensures stays { OnOk result (W.has_failed writer.new ≡ W.has_failed writer.old) }
     ensures cause { IfErr result (CutShort (W.has_failed writer.old) (W.has_failed writer.new)) }
 {
     let mut host = host;
-    match tell(alloc, crew, epochs, agenda, &mut host, writer) {
+    match tell(alloc, crew, calendar, &mut host, writer) {
         Ok(()) => Ok(host),
         Err(error) => {
             host.close();
@@ -230,11 +234,15 @@ fn simulate<RT: Threads + Sync, G: Gate + Sync, W: Sink>(
         autostart,
         commands,
     } = config;
-    let agenda = Agenda::new(alloc, autostart, commands)?;
+    let agenda = Agenda {
+        autostart,
+        commands,
+    };
+    let calendar = Calendar::new(alloc, agenda, epochs)?;
     let Ok(host) = Host::new(alloc, machine, domains) else {
         return Err(RunError::Memory);
     };
-    run_to_end(alloc, crew, epochs, &agenda, host, writer)
+    run_to_end(alloc, crew, &calendar, host, writer)
 }
 
 /// Reads a configuration to the reader's end, runs it, and writes its report: what each boundary did, what was read in each

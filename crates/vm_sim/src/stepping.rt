@@ -7,6 +7,7 @@ ghost use Rattle.vm_sim.specs.Course.{lines_for, next_world};
 ghost use Rattle.vm_sim.specs.Run.{FailsOnText, MeansConfig};
 
 use crate::agenda::Agenda;
+use crate::calendar::Calendar;
 use crate::run_error::RunError;
 use crate::simulation::boundary_before;
 use std::alloc::Global;
@@ -19,8 +20,7 @@ use vm_host::{Gate, Host};
 /// closed, since the guests hold the machine's frames.
 pub struct SteppedRun {
     host: Host,
-    agenda: Agenda,
-    epochs: u32,
+    calendar: Calendar,
     done: u32,
 }
 
@@ -29,7 +29,7 @@ impl Model for SteppedRun {
 
     ghost Value = { RunState };
 
-    ghost view = { λ r. record { host = r.host; agenda = r.agenda; epochs = r.epochs; done = r.done } };
+    ghost view = { λ r. record { host = r.host; agenda = r.calendar.agenda; epochs = r.calendar.epochs; done = r.done } };
 }
 
 impl SteppedRun {
@@ -47,12 +47,15 @@ impl SteppedRun {
             autostart,
             commands,
         } = config;
-        let agenda = Agenda::new(alloc, autostart, commands)?;
+        let agenda = Agenda {
+            autostart,
+            commands,
+        };
+        let calendar = Calendar::new(alloc, agenda, epochs)?;
         match Host::new(alloc, machine, domains) {
             Ok(host) => Ok(SteppedRun {
                 host,
-                agenda,
-                epochs,
+                calendar,
                 done: 0,
             }),
             Err(_) => Err(RunError::Memory),
@@ -76,7 +79,7 @@ impl SteppedRun {
     pub fn epochs(&self) -> u32
         ensures { result ≡ self.now.epochs }
     {
-        self.epochs
+        self.calendar.epochs()
     }
 
     /// The host after the epochs that are done.
@@ -104,14 +107,14 @@ impl SteppedRun {
         ensures epochs { OnOk result (self.new.epochs ≡ self.old.epochs) }
         ensures memory { IfErr result (λ error. error ≡ Memory) }
     {
-        prove!(self.done < self.epochs);
+        prove!(self.done < self.calendar.epochs());
         next_epoch(
             rt,
             alloc,
             gate,
             workers,
             self.done,
-            &self.agenda,
+            &self.calendar,
             &mut self.host,
         )?;
         self.done += 1;
@@ -122,8 +125,7 @@ impl SteppedRun {
     pub fn close(self) {
         let SteppedRun {
             host,
-            agenda: _,
-            epochs: _,
+            calendar: _,
             done: _,
         } = self;
         host.close();
@@ -137,15 +139,16 @@ fn next_epoch<RT: Threads + Sync, G: Gate + Sync>(
     gate: &G,
     workers: u32,
     number: u32,
-    agenda: &Agenda,
+    calendar: &Calendar,
     host: &mut Host,
 ) -> Result<(), RunError>
-    requires { (0 < workers) × (workers ≤ 64) }
+    requires workers { (0 < workers) × (workers ≤ 64) }
+    requires left { number < calendar.now.epochs }
     ensures host { OnOk result (host.new
-        ≡ next_world (policy_of host.old.machine) (lines_for host.old.names agenda.now number) host.old) }
+        ≡ next_world (policy_of host.old.machine) (lines_for host.old.names calendar.now.agenda number) host.old) }
     ensures memory { IfErr result (λ error. error ≡ Memory) }
 {
-    let _told = boundary_before(alloc, number, agenda, host)?;
+    let _told = boundary_before(alloc, number, calendar, host)?;
     host.epoch(rt, alloc, gate, workers)?;
     Ok(())
 }

@@ -6,7 +6,7 @@ use Rattle.vm_sim.proofs.calendar.find_commands.Given as goal
 abbrev pub invariant-loop-position : goal.invariant-loop-position
 invariant-loop-position l = record {
   within : l.position ≤ length l.commands;
-  found : IsCalendar l.position l.commands l.first.items l.next.items;
+  found : IsCalendar l.epochs l.position l.commands l.first l.next;
 }
 
 abbrev pub decreases-loop-position : goal.decreases-loop-position

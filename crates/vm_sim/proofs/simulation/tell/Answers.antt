@@ -7,26 +7,26 @@ use Rattle.vm_sim.proofs.simulation.tell.Goals as goal
 
 pub returns-in_err-epoch-clause-front : goal.returns-in_err-epoch-clause-front
 returns-in_err-epoch-clause-front g c =
-    let course = course_from c.args.epochs c.args.agenda.now c.args.host.now in
+    let course = course_from c.args.calendar.now.epochs c.args.calendar.now.agenda c.args.host.now in
     cut_in_epoch c.from_residual.result _ _ _ course c.loop-number.number (search rules) c.loop-number.invariant.written
-    (rw (← told_in_course c.args.epochs c.args.agenda.now c.args.host.now c.loop-number.number c.loop-number.host c.loop-number.invariant.host) c.in_err-epoch.ensures.front)
+    (rw (← told_in_course c.args.calendar.now.epochs c.args.calendar.now.agenda c.args.host.now c.loop-number.number c.loop-number.host c.loop-number.invariant.host) c.in_err-epoch.ensures.front)
 
 pub returns-in_err-told-clause-front : goal.returns-in_err-told-clause-front
 returns-in_err-told-clause-front g c =
-    cut_at_end c.from_residual-in_err-told.result _ _ _ (course_from c.args.epochs c.args.agenda.now c.args.host.now) c.loop-number.number (search rules)
+    cut_at_end c.from_residual-in_err-told.result _ _ _ (course_from c.args.calendar.now.epochs c.args.calendar.now.agenda c.args.host.now) c.loop-number.number (search rules)
     c.loop-number.invariant.written (AppendsFront-none _ _)
 
 pub returns-in_err-write_told-clause-front : goal.returns-in_err-write_told-clause-front
 returns-in_err-write_told-clause-front g c =
-    cut_at_end c.from_residual-in_err-write_told.result _ _ _ (course_from c.args.epochs c.args.agenda.now c.args.host.now) c.loop-number.number (search rules)
+    cut_at_end c.from_residual-in_err-write_told.result _ _ _ (course_from c.args.calendar.now.epochs c.args.calendar.now.agenda c.args.host.now) c.loop-number.number (search rules)
     c.loop-number.invariant.written (search rules)
 
 pub loop-number-preserved : goal.loop-number-preserved
 loop-number-preserved g c =
     let k = c.loop-number.number in
     record {
-      host = rw add-one (next_in_course c.args.epochs c.args.agenda.now c.args.host.now k c.loop-number.host _ c.loop-number.invariant.host c.in_ok-epoch.ensures.host);
+      host = rw add-one (next_in_course c.args.calendar.now.epochs c.args.calendar.now.agenda c.args.host.now k c.loop-number.host _ c.loop-number.invariant.host c.in_ok-epoch.ensures.host);
       written = rw add-one (Appends-then _ _ _ _ _ c.loop-number.invariant.written
-          (rw (told_in_course c.args.epochs c.args.agenda.now c.args.host.now k c.loop-number.host c.loop-number.invariant.host) at c.in_ok-epoch.ensures.written));
+          (rw (told_in_course c.args.calendar.now.epochs c.args.calendar.now.agenda c.args.host.now k c.loop-number.host c.loop-number.invariant.host) at c.in_ok-epoch.ensures.written));
       stays = c.in_ok-epoch.ensures.stays ∙ c.loop-number.invariant.stays;
     }

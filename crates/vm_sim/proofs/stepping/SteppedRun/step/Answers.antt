@@ -6,5 +6,5 @@ use Rattle.vm_sim.proofs.stepping.SteppedRun.step.Goals as goal
 pub returns-clause-next : goal.returns-clause-next
 returns-clause-next g c =
     let inside = c.self.inside in
-    let old : RunState = record { host = inside.host; agenda = inside.agenda; epochs = inside.epochs; done = inside.done } in
+    let old : RunState = record { host = inside.host; agenda = inside.calendar.agenda; epochs = inside.calendar.epochs; done = inside.done } in
     λ config k is. next_run config k old c.next_epoch.new.host (c.self.view_is ∙ is) c.in_ok-next_epoch.ensures.host
