@@ -10,8 +10,8 @@ pub trait Gate {
     /// Called after the job was run, before it is finished.
     fn leave(&self, number: u32);
 
-    /// Whether neither call ever waits, whatever threads passed before: then a round with little to do needs no further thread. No,
-    /// unless a gate says so.
+    /// Whether neither call ever waits, whatever threads passed before: then who has little to do may go through it in one thread, with
+    /// no round. No, unless a gate says so.
     fn never_waits(&self) -> bool {
         false
     }

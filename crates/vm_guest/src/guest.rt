@@ -20,7 +20,7 @@ use crate::release::release;
 use crate::room::GuestRoom;
 use crate::service::serve;
 use crate::view::{GuestView, view_of};
-use crate::work::work_ahead;
+use crate::work::{WorkAhead, work_ahead};
 use std::alloc::{AllocError, Global};
 use std::marker::Model;
 use vm_balloon::Stats;
@@ -104,11 +104,13 @@ impl Guest {
         Ok(())
     }
 
-    /// How much work the guest's next epoch is, in steps that find their pages in: an estimate by what can be seen before it, which
-    /// changes nothing but on how many threads an epoch is run.
-    pub fn work_ahead(&self) -> u64
+    /// How long the guest's next epoch takes, by what can be seen before it: an estimate, which changes nothing but on how many threads
+    /// an epoch is run.
+    pub fn work_ahead(&self) -> WorkAhead
         ensures work { result ≡ work_ahead self.now.guest }
-        ensures few { result ≤ 8716544 }
+        ensures steps { result.steps ≤ 262144 }
+        ensures pages { result.pages < 2 ^ 33 }
+        ensures beside { result.beside ≤ 400000000 }
     {
         work_ahead(&self.parts)
     }

@@ -1,15 +1,29 @@
-// How much work a guest's next epoch is.
+// How long a guest's next epoch takes.
 ghost use Rattle.std.specs.Prelude.{◌≡◌, ◌*◌, ◌/◌, ◌^◌, ◌<◌, ◌≤◌, max};
+ghost use Rattle.vm_guest.specs.Memory.{spares};
 ghost use Rattle.vm_guest.specs.Parts.{record_of, IsFit};
-ghost use Rattle.vm_guest.specs.Work.{pages_ahead, paging_ahead, steps_ahead, work_ahead};
+ghost use Rattle.vm_guest.specs.Work.{beside_steps, cleared_ahead, draws_ahead, pages_ahead, paging_ahead, steps_ahead, touched, weighed_steps, work_ahead};
 
 use crate::parts::GuestParts;
 
-// How many steps take as long as one that pages.
-const PAGING_STEPS: u64 = 8;
+// How many steps one that pages takes longer.
+const PAGING_STEPS: u64 = 3;
 
-// How many draws of the sampler take as long as a step.
-const DRAWS_OF_A_STEP: u64 = 8;
+// Nanoseconds of a draw of the sampler, and of a page that the driver moves. Of a page that is cleared it is one.
+const DRAW_TIME: u64 = 3;
+const MOVED_PAGE_TIME: u64 = 10;
+
+/// What can be seen of a guest's next epoch before it.
+#[derive(Clone, Copy, Debug, PartialEq, Eq)]
+pub struct WorkAhead {
+    /// The steps of its trace that the guest executes, if it neither stalls nor is blocked. One that pages counts as four.
+    pub steps: u64,
+    /// The pages that it touched and hasn't given up to its balloon since.
+    pub pages: u64,
+    /// About how many nanoseconds the epoch takes beside them: for draws of the sampler, for what is cleared at a guest's first step,
+    /// and for pages that its driver moves.
+    pub beside: u64,
+}
 
 // The steps of the trace that are in the next epoch.
 fn steps_ahead(parts: &GuestParts) -> u64
@@ -21,20 +35,39 @@ fn steps_ahead(parts: &GuestParts) -> u64
     left.min(u64::from(parts.spec.quantum))
 }
 
-// How many steps more they count for because some of them page.
+// The pages that were touched.
+fn touched(parts: &GuestParts) -> u64
+    requires fit { IsFit parts.now }
+    ensures value { result ≡ touched (record_of parts.now) }
+    ensures few { result < 2 ^ 33 }
+{
+    u64::from(parts.memory.resident()) + u64::from(parts.memory.swapped())
+}
+
+// How many of the steps page.
 fn paging_ahead(parts: &GuestParts) -> u64
     requires fit { IsFit parts.now }
-    ensures paging { result ≡ paging_ahead (record_of parts.now) }
-    ensures few { result ≤ 7 * 65536 }
+    ensures value { result ≡ paging_ahead (record_of parts.now) }
+    ensures few { result ≤ 65536 }
 {
-    let swapped = u64::from(parts.memory.swapped());
-    let touched = u64::from(parts.memory.resident()) + swapped;
-    part_of((PAGING_STEPS - 1) * steps_ahead(parts), swapped, touched)
+    let steps = steps_ahead(parts);
+    if parts.progress.position == 0 {
+        return steps.saturating_sub(u64::from(spares(parts)));
+    }
+    part_of(steps, u64::from(parts.memory.swapped()), touched(parts))
+}
+
+// The frames that are under no page.
+fn spares(parts: &GuestParts) -> u32
+    requires fit { IsFit parts.now }
+    ensures { result ≡ spares (record_of parts.now).memory }
+{
+    parts.memory.held() - parts.memory.resident()
 }
 
 // Such a part of some steps.
 fn part_of(steps: u64, part: u64, whole: u64) -> u64
-    requires few { steps ≤ 7 * 65536 }
+    requires few { steps ≤ 65536 }
     requires part { part ≤ whole }
     requires fits { whole < 2 ^ 33 }
     ensures value { result ≡ steps * part / max 1 whole }
@@ -43,30 +76,77 @@ fn part_of(steps: u64, part: u64, whole: u64) -> u64
     steps * part / whole.max(1)
 }
 
+// How many draws the sampler makes.
+fn draws_ahead(parts: &GuestParts) -> u64
+    requires fit { IsFit parts.now }
+    ensures value { result ≡ draws_ahead (record_of parts.now) }
+    ensures few { result ≤ 65536000 }
+{
+    steps_ahead(parts) * u64::from(parts.spec.samples) / u64::from(parts.spec.period)
+}
+
+// How many pages are cleared for the guest's first step.
+fn cleared_ahead(parts: &GuestParts) -> u64
+    requires fit { IsFit parts.now }
+    ensures value { result ≡ cleared_ahead (record_of parts.now) }
+    ensures few { result ≤ 262144 }
+{
+    if parts.progress.position == 0 {
+        u64::from(parts.spec.size)
+    } else {
+        0
+    }
+}
+
+// The steps, of which one that pages counts as four. Most guests that are idle have none left, and then nothing more is looked at.
+fn weighed_steps(parts: &GuestParts) -> u64
+    requires fit { IsFit parts.now }
+    ensures value { result ≡ weighed_steps (record_of parts.now) }
+    ensures few { result ≤ 262144 }
+{
+    let steps = steps_ahead(parts);
+    if steps == 0 {
+        return 0;
+    }
+    steps + PAGING_STEPS * paging_ahead(parts)
+}
+
+// What the steps take beside finding and changing pages.
+fn beside_steps(parts: &GuestParts) -> u64
+    requires fit { IsFit parts.now }
+    ensures value { result ≡ beside_steps (record_of parts.now) }
+    ensures few { result ≤ 300000000 }
+{
+    if steps_ahead(parts) == 0 {
+        return 0;
+    }
+    DRAW_TIME * draws_ahead(parts) + cleared_ahead(parts)
+}
+
 // The pages that the driver moves.
 fn pages_ahead(parts: &GuestParts) -> u64
     requires fit { IsFit parts.now }
-    ensures pages { result ≡ pages_ahead (record_of parts.now) }
+    ensures value { result ≡ pages_ahead (record_of parts.now) }
     ensures few { result ≤ 256 }
 {
     let wanted = parts.device.num_pages();
     let ballooned = parts.device.balloon_len();
-    let distance = wanted.max(ballooned) - wanted.min(ballooned);
+    let growth = wanted.saturating_sub(ballooned).min(parts.free.len());
+    let distance = growth.max(ballooned.saturating_sub(wanted));
     u64::from(parts.spec.rate.min(distance))
 }
 
 // All of it.
-pub(crate) fn work_ahead(parts: &GuestParts) -> u64
+pub(crate) fn work_ahead(parts: &GuestParts) -> WorkAhead
     requires fit { IsFit parts.now }
     ensures work { result ≡ work_ahead (record_of parts.now) }
-    ensures few { result ≤ 8716544 }
+    ensures steps { result.steps ≤ 262144 }
+    ensures pages { result.pages < 2 ^ 33 }
+    ensures beside { result.beside ≤ 400000000 }
 {
-    let steps = steps_ahead(parts);
-    // Most guests that are idle have none left, and then nothing more is looked at.
-    if steps == 0 {
-        return pages_ahead(parts);
+    WorkAhead {
+        steps: weighed_steps(parts),
+        pages: touched(parts),
+        beside: beside_steps(parts) + MOVED_PAGE_TIME * pages_ahead(parts),
     }
-    let draws = steps * u64::from(parts.spec.samples);
-    let drawn = draws / (DRAWS_OF_A_STEP * u64::from(parts.spec.period));
-    steps + paging_ahead(parts) + drawn + pages_ahead(parts)
 }

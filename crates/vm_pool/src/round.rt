@@ -1,11 +1,12 @@
 // The epochs of all guests, on threads.
-ghost use Rattle.std.specs.Prelude.{◌≡◌, ◌+◌, ◌/◌, ◌++◌, ◌<◌, ◌≤◌, [], ◌∷◌, All, EachIndex, IfOk, IfErr, IsTrue, ◌↔◌, OnOk, OnErr, count_by, length, map, max, min, false, true, vec_len, vec_capacity, slice_index_or};
+ghost use Rattle.std.specs.Prelude.{◌≡◌, ◌+◌, ◌*◌, ◌^◌, ◌++◌, ◌<◌, ◌≤◌, [], ◌∷◌, All, EachIndex, IfOk, IfErr, IsTrue, ◌↔◌, OnOk, OnErr, count_by, length, map, false, true, vec_len, vec_capacity, slice_index_or};
 ghost use Rattle.vm_pool.specs.declared.slot.Slot.TheVariants.{Away};
 ghost use Rattle.vm_pool.specs.Changes.{IsServed};
 ghost use Rattle.vm_pool.specs.Guests.{number_of, total};
 ghost use Rattle.vm_pool.specs.Pool.{running_count};
 ghost use Rattle.vm_pool.specs.Slots.{guest_in, is_away, is_prepared, slot_run, unprepared, IsSettled};
-ghost use Rattle.vm_guest.specs.Work.{work_ahead};
+ghost use Rattle.vm_guest.specs.Work.{touched, weighed_steps};
+ghost use Rattle.vm_pool.specs.Threads.{beside_ahead, gain_of, start_of, step_time};
 ghost use Rattle.vm_pool.specs.Turns.{back_in, left_slot, running_in, Arrives, MayRun};
 
 use crate::slot::{Slot, fill, guest_of};
@@ -14,9 +15,17 @@ use std::alloc::{AllocError, Global};
 use std::mem;
 use std::thread::Threads;
 use vm_board::{Gate, Jobs, run_round};
+use vm_guest::WorkAhead;
 
-// The least work for which a thread is used, in steps that find their pages in: they take two to three times as long as its start.
-const WORK_OF_A_THREAD: u64 = 1000;
+// Nanoseconds of a step whose page is in a cache, and the most that it waits longer where none has it; so many pages that were touched
+// make it a nanosecond longer.
+const STEP_TIME: u64 = 25;
+const MOST_WAITING: u64 = 175;
+const PAGES_OF_A_NANOSECOND: u64 = 1000;
+
+// Nanoseconds that it takes to start a thread, and to move a guest into a round and back.
+const START_TIME: u64 = 45000;
+const MOVE_TIME: u64 = 1000;
 
 // Each guest runs its epoch, on at most so many threads. Where memory is refused, which is only where a guest runs, none does, and there
 // may be room for the epochs of some.
@@ -50,45 +59,96 @@ pub(crate) fn run_epochs<R: Threads + Sync, G: Gate + Sync>(
     run_turns(rt, alloc, gate, threads, slots)
 }
 
-// On how many threads the epochs are run, where each of them has to be worth its start.
+// On how many threads the epochs are run: as many as are worth their starts.
 fn threads_worth(workers: u32, slots: &[Slot]) -> u32
-    requires workers { 0 < workers }
+    requires workers { (0 < workers) × (workers ≤ 64) }
     requires few { length slots.now ≤ 256 }
-    ensures { result ≡ max 1 (min workers (total work_ahead (map guest_in slots.now) / 1000)) }
+    ensures some { 0 < result }
+    ensures few { result ≤ workers }
+    ensures worth { start_of result ≤ gain_of (map guest_in slots.now) }
+    ensures most { result < workers → gain_of (map guest_in slots.now) < start_of (result + 1) }
 {
     if workers == 1 {
         return 1;
     }
-    threads_for(work_ahead(slots), workers)
+    threads_for(gain(slots), workers)
 }
 
-// As many threads as have enough work each, at least one and at most so many.
-fn threads_for(work: u64, most: u32) -> u32
-    requires { 0 < most }
-    ensures { result ≡ max 1 (min most (work / 1000)) }
+// As many threads as are worth it where they gain so much, at least one and at most so many.
+fn threads_for(gain: u64, most: u32) -> u32
+    requires { (0 < most) × (most ≤ 64) }
+    ensures some { 0 < result }
+    ensures few { result ≤ most }
+    ensures worth { start_of result ≤ gain }
+    ensures most { result < most → gain < start_of (result + 1) }
 {
-    u64::from(most).min(work / WORK_OF_A_THREAD).max(1) as u32
-}
-
-// How much work the epochs of all guests are together.
-fn work_ahead(slots: &[Slot]) -> u64
-    requires few { length slots.now ≤ 256 }
-    ensures { result ≡ total work_ahead (map guest_in slots.now) }
-{
-    let mut work = 0;
-    for slot in slots {
-        work += work_in(slot);
+    let mut threads = 1;
+    while threads < most && start_time(threads + 1) <= gain {
+        threads += 1;
     }
-    work
+    threads
 }
 
-// How much work the epoch of a slot's guest is, if one runs there.
-fn work_in(slot: &Slot) -> u64
-    ensures work { result ≡ number_of work_ahead (guest_in slot.now) }
-    ensures few { result ≤ 8716544 }
+// What so many threads have to gain.
+fn start_time(threads: u32) -> u64
+    requires { (0 < threads) × (threads ≤ 64) }
+    ensures { result ≡ start_of threads }
+{
+    u64::from(threads * (threads - 1)) * START_TIME
+}
+
+// What threads gain in the epochs of all guests.
+fn gain(slots: &[Slot]) -> u64
+    requires few { length slots.now ≤ 256 }
+    ensures { result ≡ gain_of (map guest_in slots.now) }
+{
+    let mut steps = 0;
+    let mut pages = 0;
+    let mut beside = 0;
+    let mut moves = 0;
+    for slot in slots {
+        let ahead = work_in(slot);
+        steps += ahead.steps;
+        pages += ahead.pages;
+        beside += ahead.beside;
+        moves += move_of(slot);
+    }
+    (steps * step_time(pages) + beside).saturating_sub(moves)
+}
+
+// How long a step takes where so many pages were touched.
+fn step_time(pages: u64) -> u64
+    ensures value { result ≡ step_time pages }
+    ensures few { result ≤ 200 }
+{
+    STEP_TIME + (pages / PAGES_OF_A_NANOSECOND).min(MOST_WAITING)
+}
+
+// What can be seen of the epoch of a slot's guest, if one runs there.
+fn work_in(slot: &Slot) -> WorkAhead
+    ensures steps { result.steps ≡ number_of weighed_steps (guest_in slot.now) }
+    ensures pages { result.pages ≡ number_of touched (guest_in slot.now) }
+    ensures beside { result.beside ≡ number_of beside_ahead (guest_in slot.now) }
+    ensures few_steps { result.steps ≤ 262144 }
+    ensures few_pages { result.pages < 2 ^ 33 }
+    ensures little { result.beside ≤ 400000000 }
 {
     match guest_of(slot) {
         Some(guest) => guest.work_ahead(),
+        None => WorkAhead {
+            steps: 0,
+            pages: 0,
+            beside: 0,
+        },
+    }
+}
+
+// Twice what it takes to move that guest.
+fn move_of(slot: &Slot) -> u64
+    ensures { result ≡ 2000 * number_of (λ _. 1) (guest_in slot.now) }
+{
+    match guest_of(slot) {
+        Some(_) => 2 * MOVE_TIME,
         None => 0,
     }
 }

@@ -292,9 +292,10 @@ impl LoneGuest {
         check_eq(rt, self.guest.view().active, active);
     }
 
-    // Asserts how much work the next epoch is.
-    pub(super) fn check_work(&self, rt: &impl Abort, work: u64) {
-        check_eq(rt, self.guest.work_ahead(), work);
+    // Asserts the steps of the next epoch, the pages that they are on, and the nanoseconds beside them.
+    pub(super) fn check_work(&self, rt: &impl Abort, wanted: (u64, u64, u64)) {
+        let work = self.guest.work_ahead();
+        check_eq(rt, (work.steps, work.pages, work.beside), wanted);
     }
 
     // Asserts how many pages can lie in the swap area.
