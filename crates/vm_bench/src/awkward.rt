@@ -1,5 +1,8 @@
 //! Texts that are awkward: short epochs on two workers, whole pages swapped, pages by turns from both ends of a guest, many commands
 //! to guests whose names differ in their last bytes, and close sampling.
+//!
+//! These guests write and never read, and a report has the bytes of reads alone: so the digest tells no byte of a page that is
+//! swapped.
 use crate::digest::Digest;
 use crate::random::Random;
 use crate::runs::report_of;

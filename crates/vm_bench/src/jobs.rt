@@ -6,6 +6,7 @@ use crate::drivers::drivers;
 use crate::fleet::fleet;
 use crate::months::months;
 use crate::policy::policy;
+use crate::series::series;
 use std::alloc::Global;
 use std::thread::Threads;
 use vm_sim::RunError;
@@ -19,16 +20,18 @@ pub enum Job {
     Policy,
     Drivers,
     Awkward,
+    Series,
 }
 
 /// All jobs.
-pub const JOBS: [Job; 6] = [
+pub const JOBS: [Job; 7] = [
     Job::Day,
     Job::Months,
     Job::Fleet,
     Job::Policy,
     Job::Drivers,
     Job::Awkward,
+    Job::Series,
 ];
 
 impl Job {
@@ -41,7 +44,13 @@ impl Job {
             Job::Policy => "policy",
             Job::Drivers => "drivers",
             Job::Awkward => "awkward",
+            Job::Series => "series",
         }
+    }
+
+    /// Whether the word `all` stands for it too. It does not for [`Job::Series`]: `policy` makes the same calls.
+    pub fn is_in_all(self) -> bool {
+        !matches!(self, Job::Series)
     }
 
     /// Does it on inputs of this seed, and gives the digest of its results. `part` is how many times smaller the inputs are.
@@ -60,6 +69,7 @@ impl Job {
             Job::Policy => policy(rt, alloc, seed, part, &mut digest)?,
             Job::Drivers => drivers(rt, alloc, seed, part, &mut digest)?,
             Job::Awkward => awkward(rt, alloc, seed, part, &mut digest)?,
+            Job::Series => series(rt, alloc, seed, part, &mut digest)?,
         }
         Ok(digest)
     }

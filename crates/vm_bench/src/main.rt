@@ -1,8 +1,9 @@
 //! Does jobs that users of this software wait for, on inputs of its own making, and prints a digest of all their results:
 //! `vm_bench JOB SEED [PART]`.
 //!
-//! JOB is `day`, `months`, `fleet`, `policy`, `drivers`, `awkward`, or `all` of them; each SEED gives other inputs of the same kind
-//! and size, and PART makes them so many times smaller. A line says the job, how many bytes its results have, and their digest.
+//! JOB is `day`, `months`, `fleet`, `policy`, `drivers`, `awkward`, or `all` of them, or `series`, which `all` leaves out, since
+//! `policy` makes the same calls. Each SEED gives other inputs of the same kind and size, and PART makes them so many times smaller.
+//! A line says the job, how many bytes its results have, and their digest.
 #![tactic(auto)]
 
 mod awkward;
@@ -15,6 +16,7 @@ mod months;
 mod policy;
 mod random;
 mod runs;
+mod series;
 mod text;
 
 use crate::jobs::{JOBS, Job};
@@ -48,7 +50,7 @@ fn tell_all(
 ) -> io::Result<bool> {
     let mut done = false;
     for job in JOBS {
-        if word == "all" || word == job.word() {
+        if word == job.word() || (word == "all" && job.is_in_all()) {
             done = tell(rt, job, seed, part)?;
         }
     }

@@ -26,7 +26,7 @@ impl Random {
         self.generator.next_word() % count
     }
 
-    /// A number below `count`, the smaller the likelier: most are among a few.
+    /// A number below `count`, the smaller the likelier: about half of them are below a fifth of it.
     pub fn skewed(&mut self, count: u32) -> u32
         requires { 0 < count }
         ensures { result < count }
