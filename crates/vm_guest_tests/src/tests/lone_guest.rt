@@ -1,5 +1,6 @@
 // A guest on a machine of its own.
 ghost use Rattle.std.specs.Prelude.{◌≡◌, ◌+◌, ◌-◌, ◌<◌, ◌≤◌, ◌^◌, IsTrue, length};
+ghost use Rattle.std.specs.FinSet as set;
 ghost use Rattle.vm_guest.specs.Good.{HasNothingPosted};
 ghost use Rattle.vm_guest.specs.Room.{room_for};
 
@@ -20,26 +21,18 @@ fn demand(rt: &impl Abort, holds: bool)
     assert!(rt; holds);
 }
 
-// Asserts the numbers of the frames that a machine hands out next, all of which go back to it.
+// Asserts the numbers of the first two frames that a machine hands out of which no frame is out, and ends it.
 #[tactic(auto, using(vm_frames::proofs::NumberSets::set_members))]
-fn check_next(rt: &impl Abort, machine: &mut Machine, wanted: (u32, u32, u32, u32))
-    ensures { machine.new.out ≡ machine.old.out }
+fn check_first(rt: &impl Abort, machine: Machine, wanted: (u32, u32))
+    requires { machine.out ≡ set.empty }
 {
+    let mut machine = machine;
     let first = machine.take().expect(rt, "a free frame");
     let second = machine.take().expect(rt, "a free frame");
-    let third = machine.take().expect(rt, "a free frame");
-    let fourth = machine.take().expect(rt, "a free frame");
-    let numbers = (
-        first.number(),
-        second.number(),
-        third.number(),
-        fourth.number(),
-    );
-    check_eq(rt, numbers, wanted);
-    machine.give(fourth);
-    machine.give(third);
+    check_eq(rt, (first.number(), second.number()), wanted);
     machine.give(second);
     machine.give(first);
+    machine.close();
 }
 
 // A guest, and a machine that no other guest has frames of.
@@ -367,9 +360,18 @@ impl LoneGuest {
         ]
     }
 
-    pub(super) fn end(self) -> GuestSpec {
+    // Stops the guest. All frames of the machine are free then.
+    fn stop(self) -> (GuestSpec, Machine)
+        ensures empty { result.1.out ≡ set.empty }
+        ensures none { set.len result.1.out ≡ 0 }
+    {
         let LoneGuest { guest, mut machine } = self;
         let spec = guest.stop(&mut machine);
+        (spec, machine)
+    }
+
+    pub(super) fn end(self) -> GuestSpec {
+        let (spec, machine) = self.stop();
         machine.close();
         spec
     }
@@ -379,12 +381,10 @@ impl LoneGuest {
         let _spec = self.end();
     }
 
-    // The same, which asserts the numbers of the frames that the machine hands out then.
-    pub(super) fn finish_before(self, rt: &impl Abort, wanted: (u32, u32, u32, u32)) {
-        let LoneGuest { guest, mut machine } = self;
-        let _spec = guest.stop(&mut machine);
-        check_next(rt, &mut machine, wanted);
-        machine.close();
+    // The same, which asserts the numbers of the first two frames that the machine hands out then.
+    pub(super) fn finish_before(self, rt: &impl Abort, wanted: (u32, u32)) {
+        let (_spec, machine) = self.stop();
+        check_first(rt, machine, wanted);
     }
 
     // The same, which asserts the size of that specification, its minimum, and how many steps it has.
