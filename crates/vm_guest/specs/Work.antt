@@ -20,7 +20,7 @@ paging_ahead g = if g.progress.position == 0 then steps_ahead g - spares g.memor
 
 -- the steps, of which one that pages takes as long as four
 abbrev pub weighed_steps : GuestRecord → ℕ
-weighed_steps g = if steps_ahead g == 0 then 0 else steps_ahead g + 3 * paging_ahead g
+weighed_steps g = steps_ahead g + 3 * paging_ahead g
 
 -- how many draws the sampler makes for them
 abbrev pub draws_ahead : GuestRecord → ℕ
@@ -32,12 +32,16 @@ cleared_ahead g = if g.progress.position == 0 then g.config.size else 0
 
 -- what the steps take beside finding and changing pages
 abbrev pub beside_steps : GuestRecord → ℕ
-beside_steps g = if steps_ahead g == 0 then 0 else 3 * draws_ahead g + cleared_ahead g
+beside_steps g = 3 * draws_ahead g + cleared_ahead g
 
 -- how many pages its driver puts into the balloon, of those that are free, or takes out of it
 abbrev pub pages_ahead : GuestRecord → ℕ
 pages_ahead g = min g.config.rate (max (min (g.device.num_pages - ballooned g) (count (free_pages g))) (ballooned g - g.device.num_pages))
 
+-- a number of a guest that has steps ahead, and 0 of any other
+abbrev pub with_steps : GuestRecord → ℕ → ℕ
+with_steps g number = if steps_ahead g == 0 then 0 else number
+
 -- all of it
 abbrev pub work_ahead : GuestRecord → WorkAhead
-work_ahead g = record { steps = weighed_steps g; pages = touched g; beside = beside_steps g + 10 * pages_ahead g }
+work_ahead g = record { steps = with_steps g (weighed_steps g); pages = with_steps g (touched g); beside = with_steps g (beside_steps g) + 10 * pages_ahead g }

@@ -9,8 +9,10 @@ use crate::parts::GuestParts;
 // How many steps one that pages takes longer.
 const PAGING_STEPS: u64 = 3;
 
-// Nanoseconds of a draw of the sampler, and of a page that the driver moves. Of a page that is cleared it is one.
+// Nanoseconds of a draw of the sampler. Of a page that is cleared it is one.
 const DRAW_TIME: u64 = 3;
+
+// Nanoseconds of a page that the driver moves.
 const MOVED_PAGE_TIME: u64 = 10;
 
 /// What can be seen of a guest's next epoch before it.
@@ -18,7 +20,7 @@ const MOVED_PAGE_TIME: u64 = 10;
 pub struct WorkAhead {
     /// The steps of its trace that the guest executes, if it neither stalls nor is blocked. One that pages counts as four.
     pub steps: u64,
-    /// The pages that it touched and hasn't given up to its balloon since.
+    /// The pages that it touched and hasn't given up to its balloon since, where it has steps.
     pub pages: u64,
     /// About how many nanoseconds the epoch takes beside them: for draws of the sampler, for what is cleared at a guest's first step,
     /// and for pages that its driver moves.
@@ -98,17 +100,13 @@ fn cleared_ahead(parts: &GuestParts) -> u64
     }
 }
 
-// The steps, of which one that pages counts as four. Most guests that are idle have none left, and then nothing more is looked at.
+// The steps, of which one that pages counts as four.
 fn weighed_steps(parts: &GuestParts) -> u64
     requires fit { IsFit parts.now }
     ensures value { result ≡ weighed_steps (record_of parts.now) }
     ensures few { result ≤ 262144 }
 {
-    let steps = steps_ahead(parts);
-    if steps == 0 {
-        return 0;
-    }
-    steps + PAGING_STEPS * paging_ahead(parts)
+    steps_ahead(parts) + PAGING_STEPS * paging_ahead(parts)
 }
 
 // What the steps take beside finding and changing pages.
@@ -117,9 +115,6 @@ fn beside_steps(parts: &GuestParts) -> u64
     ensures value { result ≡ beside_steps (record_of parts.now) }
     ensures few { result ≤ 300000000 }
 {
-    if steps_ahead(parts) == 0 {
-        return 0;
-    }
     DRAW_TIME * draws_ahead(parts) + cleared_ahead(parts)
 }
 
@@ -144,9 +139,18 @@ pub(crate) fn work_ahead(parts: &GuestParts) -> WorkAhead
     ensures pages { result.pages < 2 ^ 33 }
     ensures beside { result.beside ≤ 400000000 }
 {
+    let moving = MOVED_PAGE_TIME * pages_ahead(parts);
+    // Most guests that are idle have none left, and then nothing more is looked at.
+    if steps_ahead(parts) == 0 {
+        return WorkAhead {
+            steps: 0,
+            pages: 0,
+            beside: moving,
+        };
+    }
     WorkAhead {
         steps: weighed_steps(parts),
         pages: touched(parts),
-        beside: beside_steps(parts) + MOVED_PAGE_TIME * pages_ahead(parts),
+        beside: beside_steps(parts) + moving,
     }
 }

@@ -5,8 +5,7 @@ ghost use Rattle.vm_pool.specs.Changes.{IsServed};
 ghost use Rattle.vm_pool.specs.Guests.{number_of, total};
 ghost use Rattle.vm_pool.specs.Pool.{running_count};
 ghost use Rattle.vm_pool.specs.Slots.{guest_in, is_away, is_prepared, slot_run, unprepared, IsSettled};
-ghost use Rattle.vm_guest.specs.Work.{touched, weighed_steps};
-ghost use Rattle.vm_pool.specs.Threads.{beside_ahead, gain_of, start_of, step_time};
+ghost use Rattle.vm_pool.specs.Threads.{beside_of, gain_of, pages_of, start_of, step_time, steps_of};
 ghost use Rattle.vm_pool.specs.Turns.{back_in, left_slot, running_in, Arrives, MayRun};
 
 use crate::slot::{Slot, fill, guest_of};
@@ -17,14 +16,19 @@ use std::thread::Threads;
 use vm_board::{Gate, Jobs, run_round};
 use vm_guest::WorkAhead;
 
-// Nanoseconds of a step whose page is in a cache, and the most that it waits longer where none has it; so many pages that were touched
-// make it a nanosecond longer.
+// Nanoseconds of a step whose page is in a cache.
 const STEP_TIME: u64 = 25;
+
+// The most that it waits longer, where no cache has it.
 const MOST_WAITING: u64 = 175;
+
+// So many pages that were touched make it a nanosecond longer.
 const PAGES_OF_A_NANOSECOND: u64 = 1000;
 
-// Nanoseconds that it takes to start a thread, and to move a guest into a round and back.
+// Nanoseconds that it takes to start a thread.
 const START_TIME: u64 = 45000;
+
+// Nanoseconds that it takes to move a guest into a round and back.
 const MOVE_TIME: u64 = 1000;
 
 // Each guest runs its epoch, on at most so many threads. Where memory is refused, which is only where a guest runs, none does, and there
@@ -126,9 +130,9 @@ fn step_time(pages: u64) -> u64
 
 // What can be seen of the epoch of a slot's guest, if one runs there.
 fn work_in(slot: &Slot) -> WorkAhead
-    ensures steps { result.steps ≡ number_of weighed_steps (guest_in slot.now) }
-    ensures pages { result.pages ≡ number_of touched (guest_in slot.now) }
-    ensures beside { result.beside ≡ number_of beside_ahead (guest_in slot.now) }
+    ensures steps { result.steps ≡ number_of steps_of (guest_in slot.now) }
+    ensures pages { result.pages ≡ number_of pages_of (guest_in slot.now) }
+    ensures beside { result.beside ≡ number_of beside_of (guest_in slot.now) }
     ensures few_steps { result.steps ≤ 262144 }
     ensures few_pages { result.pages < 2 ^ 33 }
     ensures little { result.beside ≤ 400000000 }

@@ -13,7 +13,7 @@ fn steps_and_draws_are_work(rt: HostRuntime) {
     spec.samples = 9;
     spec.period = 1;
     let mut lone = LoneGuest::start(&rt, spec);
-    for work in [(2, 0, 58), (2, 1, 54), (1, 1, 27), (0, 1, 0)] {
+    for work in [(2, 0, 58), (2, 1, 54), (1, 1, 27), (0, 0, 0)] {
         lone.check_work(&rt, work);
         lone.next_epoch(&rt);
     }
