@@ -1,8 +1,0 @@
-use Rattle.std.proofs.Common.{◌∙◌}
-use Rattle.vm_guest.proofs.SlotLemmas.{remove-not_kept}
-use Rattle.vm_guest.proofs.memory.load_out.Goals as goal
-
-pub returns-else-is_out-clause-area : goal.returns-else-is_out-clause-area
-returns-else-is_out-clause-area c =
-    let area = c.args.swap.now in
-    λ i. record { pages = remove-not_kept area.pages c.args.page (c.requires ∙ c.if-is_out.false) i; capacity = area.capacity }
