@@ -23,6 +23,6 @@ step_time pages = 25 + min 175 (pages / 1000)
 abbrev pub gain_of : Guests → ℕ
 gain_of guests = total steps_of guests * step_time (total pages_of guests) + total beside_of guests - 2000 * running_count guests
 
--- what so many threads have to gain so that the last of them is worth its start
+-- what so many threads have to gain so that the last of them saves twice its start, of 45000
 abbrev pub start_of : ℕ → ℕ
-start_of threads = threads * (threads - 1) * 45000
+start_of threads = threads * (threads - 1) * 90000

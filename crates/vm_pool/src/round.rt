@@ -25,8 +25,8 @@ const MOST_WAITING: u64 = 175;
 // So many pages that were touched make it a nanosecond longer.
 const PAGES_OF_A_NANOSECOND: u64 = 1000;
 
-// Nanoseconds that it takes to start a thread.
-const START_TIME: u64 = 45000;
+// Nanoseconds that a thread has to save: twice its start, which takes longer where the processors have other work.
+const WORTH_TIME: u64 = 90000;
 
 // Nanoseconds that it takes to move a guest into a round and back.
 const MOVE_TIME: u64 = 1000;
@@ -98,7 +98,7 @@ fn start_time(threads: u32) -> u64
     requires { (0 < threads) × (threads ≤ 64) }
     ensures { result ≡ start_of threads }
 {
-    u64::from(threads * (threads - 1)) * START_TIME
+    u64::from(threads * (threads - 1)) * WORTH_TIME
 }
 
 // What threads gain in the epochs of all guests.

@@ -643,5 +643,6 @@ fn check_shared(
 #[test]
 fn epochs_are_the_same_however_they_are_shared(rt: HostRuntime) -> Result<(), Fail> {
     check_shared(&rt, 100, 3)?;
-    check_shared(&rt, 5, 1500)
+    check_shared(&rt, 5, 1500)?;
+    check_shared(&rt, 3, 5000)
 }
