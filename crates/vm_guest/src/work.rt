@@ -126,6 +126,9 @@ fn pages_ahead(parts: &GuestParts) -> u64
 {
     let wanted = parts.device.num_pages();
     let ballooned = parts.device.balloon_len();
+    if wanted == ballooned {
+        return 0;
+    }
     let growth = wanted.saturating_sub(ballooned).min(parts.free.len());
     let distance = growth.max(ballooned.saturating_sub(wanted));
     u64::from(parts.spec.rate.min(distance))
