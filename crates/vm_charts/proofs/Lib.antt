@@ -1,2 +1,3 @@
 pub mod PictureLemmas
-pub mod SampleLemmas
+pub mod ScaleLemmas
+pub mod StackedLemmas

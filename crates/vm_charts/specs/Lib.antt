@@ -1,4 +1,9 @@
 pub mod Samples
+pub mod Scale
+pub mod Drawing
 pub mod Curves
-pub mod Texts
-pub mod Charts
+pub mod Shapes
+pub mod Picture
+pub mod Series
+pub mod Layout
+pub mod Stacked

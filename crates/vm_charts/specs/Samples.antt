@@ -39,16 +39,3 @@ samples measure rows = map (sample measure) rows
 abbrev pub greatest : List (Option ℕ) → ℕ
 greatest [] = 0
 greatest (value ∷ values) = max (unwrap_or value 0) (greatest values)
-
--- ---- the targets of a row
-
-abbrev pub target_in : Option GuestView → Option ℕ
-target_in view = option_map (λ g. g.target) view
-
-abbrev pub targets : Row → List (Option ℕ)
-targets row = map target_in row.views
-
--- the greatest target of all guests in all rows, or 0
-abbrev pub greatest_target : List Row → ℕ
-greatest_target [] = 0
-greatest_target (row ∷ rows) = max (greatest (targets row)) (greatest_target rows)

@@ -1,9 +1,8 @@
 // What is seen of a host epoch by epoch, as numbers.
-ghost use Rattle.std.specs.Prelude.{◌≡◌, ◌≤◌, ℕ, is_some, max, IfOk};
+ghost use Rattle.std.specs.Prelude.{◌≡◌, is_some, max, IfOk};
 ghost use Rattle.std.specs.List.{list_any};
 ghost use Rattle.vm_plan.specs.State.{rank};
-ghost use Rattle.vm_charts.specs.Samples.{greatest, greatest_target, pages_in, pages_of, sample, samples, target_in, targets, total};
-ghost use Rattle.vm_charts.specs.declared.samples.Measure.TheVariants.{Target};
+ghost use Rattle.vm_charts.specs.Samples.{greatest, pages_in, pages_of, sample, samples, total};
 
 use std::alloc::{AllocError, Global};
 use vm_host::{GuestView, State};
@@ -104,48 +103,6 @@ pub(crate) fn greatest(values: &[Option<u64>]) -> u64
     let mut most: u64 = 0;
     for value in values {
         most = most.max(value.unwrap_or(0));
-    }
-    most
-}
-
-// The greatest value of a measure.
-pub(crate) fn greatest_of(
-    alloc: Global,
-    rows: &[EpochRow],
-    measure: Measure,
-) -> Result<u64, AllocError>
-    ensures { IfOk result (λ most. most ≡ greatest (samples measure rows.now)) }
-{
-    let values = samples(alloc, rows, measure)?;
-    Ok(greatest(values.as_slice()))
-}
-
-fn target_in(view: &Option<GuestView>) -> Option<u64>
-    ensures { result ≡ target_in view.now }
-{
-    view.map(|view| u64::from(view.target))
-}
-
-// The greatest target in a row, or what is given, if none is greater.
-fn greatest_in_row(row: &EpochRow, most: u64) -> u64
-    ensures { result ≡ max most (greatest (targets row.now)) }
-{
-    let views = row.views();
-    let mut reached = most;
-    for view in views {
-        reached = reached.max(target_in(view).unwrap_or(0));
-    }
-    reached
-}
-
-// The greatest target of all guests, row by row, since the views of a row lie side by side.
-pub(crate) fn greatest_target(rows: &[EpochRow]) -> u64
-    ensures is { result ≡ greatest_target rows.now }
-    ensures bounds { (position : ℕ) → greatest (samples (Target position) rows.now) ≤ result }
-{
-    let mut most = 0;
-    for row in rows {
-        most = greatest_in_row(row, most);
     }
     most
 }

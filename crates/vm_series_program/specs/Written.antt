@@ -1,7 +1,8 @@
 -- What is written of a run, and what the exit status 3 says of the reader and the writer.
 use Rattle.std.specs.Prelude.{◌≡◌, ◌⊎◌, ℕ, Bool, true, false, List, Option, Err}
 use Rattle.std.specs.Io.KnownBytes.{Appends, Keeps}
-use Rattle.vm_charts.specs.Charts.{Draws}
+use Rattle.vm_charts.specs.Picture.{svg_of}
+use Rattle.vm_charts.specs.Series.{drawing_of}
 use Rattle.vm_config.specs.Reading.{config_of}
 use Rattle.vm_series.specs.Csv.{csv_text}
 use Rattle.vm_series.specs.Rows.{Rows, rows_of}
@@ -12,7 +13,7 @@ use Rattle.vm_sim.specs.Streams.{AppendsFront}
 
 -- the text is a drawing of the rows, or has them as comma-separated values
 abbrev pub IsTextOf : (is_drawn : Bool) → Rows → List ℕ → Type 0
-IsTextOf true rows text = Draws rows text
+IsTextOf true rows text = text ≡ svg_of (drawing_of rows)
 IsTextOf false rows text = text ≡ csv_text rows
 
 module _ (old new : Option (List ℕ)) (is_drawn : Bool) where

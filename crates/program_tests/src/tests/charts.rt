@@ -23,20 +23,27 @@ pub(super) fn assert_count(rt: &impl Abort, svg: &String, piece: &str, wanted: u
 }
 
 // Of the two guests the second starts in the second epoch. Free are 4, 1, 7 and 7 frames, the states high, low, hard and soft; the
-// targets are 96, 88, 88 and 88, and 5; no page is swapped out, and 0, 4, 4 and 12 are ballooned.
+// targets are 96, 88, 88 and 88, and 5; no page is swapped out, and 0, 4, 4 and 12 are ballooned. The scales end at 8, 100 and 15.
 #[test]
 fn curves_stand_in_their_scales(rt: HostRuntime) {
     let svg = drawn(&rt, LOW_AND_BACK);
+    let (black, orange) = (
+        "stroke=\"#000000\" stroke-dasharray=\"none\"",
+        "stroke=\"#E69F00\" stroke-dasharray=\"9 4\"",
+    );
     let curves = [
-        "(90,178) scale(1,-1)\" stroke-dasharray=\"none\" d=\"M0,75H220L220,0H440L440,25H660L660,50H880\"/>",
-        "(90,405) scale(1,-1)\" stroke-dasharray=\"none\" d=\"M0,80H220L220,20H440L440,140H660L660,140H880\"/>",
-        "(90,710) scale(1,-1)\" stroke-dasharray=\"none\" d=\"M0,192H220L220,176H440L440,176H660L660,176H880\"/>",
-        "(90,710) scale(1,-1)\" stroke-dasharray=\"9 4\" d=\"M220,10H440L440,10H660L660,10H880\"/>",
-        "(90,1046) scale(1,-1)\" stroke-dasharray=\"none\" d=\"M0,0H220L220,0H440L440,0H660L660,0H880\"/>",
-        "(90,1046) scale(1,-1)\" stroke-dasharray=\"9 4\" d=\"M0,0H220L220,32H440L440,32H660L660,96H880\"/>",
+        (179, black, "M0,75H220V0H440V25H660V50H880", "state"),
+        (467, black, "M0,100H220V25H440V175H880", "free frames"),
+        (755, black, "M0,192H220V176H880", "a"),
+        (755, orange, "M220,10H880", "b"),
+        (1067, black, "M0,0H880", "swapped out"),
+        (1067, orange, "M0,0H220V53H660V160H880", "in the balloons"),
     ];
-    for curve in curves {
-        assert_shows(&rt, &svg, curve);
+    for (base, stroke, path, name) in curves {
+        let curve = format!(in rt.alloc();
+            "(90,{base}) scale(1,-1)\" {stroke} d=\"{path}\"><title>{name}</title></path>"
+        ).expect(&rt, "a curve");
+        assert_shows(&rt, &svg, curve.as_str());
     }
     assert_count(&rt, &svg, "class=\"curve\"", 6);
 }
@@ -45,25 +52,31 @@ fn curves_stand_in_their_scales(rt: HostRuntime) {
 fn scales_and_legends_are_told(rt: HostRuntime) {
     let svg = drawn(&rt, LOW_AND_BACK);
     let pieces = [
-        "width=\"1010\" height=\"1146\" viewBox=\"0 0 1010 1146\"",
+        "role=\"img\" width=\"1010\" height=\"1145\" viewBox=\"0 0 1010 1145\"",
+        "<title>Memory of a host after each epoch</title>",
         ">4 epochs, 2 guests, 100 frames; a frame and a page have 4096 bytes</text>",
-        ">1. Free frames over the four states</text>",
-        "<text class=\"end\" x=\"82\" y=\"107\">high</text>",
-        // free frames: five parts of 2
-        "<path class=\"grid\" d=\"M90,205H970\"/>\n<text class=\"end\" x=\"82\" y=\"209\">10</text>",
-        "<text class=\"middle\" transform=\"translate(28,305) rotate(-90)\">free frames</text>",
+        "<g><title>1. State of the host</title>",
+        ">1. State of the host</text>",
+        "<path class=\"grid\" d=\"M90,104H970\"/>\n<text class=\"end\" x=\"82\" y=\"108\">high</text>",
+        // free frames: four parts of 2
+        "<path class=\"grid\" d=\"M90,267H970\"/>\n<text class=\"end\" x=\"82\" y=\"271\">8</text>",
+        "<text class=\"middle\" transform=\"translate(28,367) rotate(-90)\">frames</text>",
         // the last epoch, 3, begins 660 right of the chart's edge
-        "<path class=\"tick\" d=\"M750,405v6\"/>\n<text class=\"middle\" x=\"750\" y=\"425\">3</text>",
+        "<path class=\"tick\" d=\"M750,467v6\"/>\n<text class=\"middle\" x=\"750\" y=\"487\">3</text>",
         // the first mark of the second guest is in the middle of its first epoch, 1, 10 above the base
-        "cx=\"420\" cy=\"700\" r=\"8\"/><text class=\"number\" x=\"420\" y=\"700\" dy=\"4\">2</text>",
-        "(310,772)\"><path class=\"sample\" stroke-dasharray=\"9 4\"",
+        "cx=\"420\" cy=\"745\" r=\"8\"/><text class=\"number\" x=\"420\" y=\"745\" dy=\"4\">2</text>",
+        // nine columns of 97 pixels
+        "(187,817)\"><path class=\"sample\" stroke=\"#E69F00\" stroke-dasharray=\"9 4\"",
         "<text x=\"68\" y=\"4\">b</text>",
+        // three columns of 293 pixels
+        "(383,1129)\">",
         ">swapped out</text>",
         ">in the balloons</text>",
     ];
     for piece in pieces {
         assert_shows(&rt, &svg, piece);
     }
+    assert_count(&rt, &svg, "</g>\n", 8);
 }
 
 // A guest that is stopped for an epoch, and one that never runs.
@@ -77,7 +90,7 @@ fn curves_have_gaps(rt: HostRuntime) {
     assert_shows(
         &rt,
         &svg,
-        "stroke-dasharray=\"9 4\" d=\"M0,200H293M586,200H880\"/>",
+        "stroke-dasharray=\"9 4\" d=\"M0,200H293M586,200H880\"><title>g</title>",
     );
     assert_count(&rt, &svg, "idle", 0);
     assert_count(&rt, &svg, "class=\"curve\"", 5);
@@ -89,18 +102,18 @@ const MARKED: &str =
 {\"name\":\"b\",\"size\":4,\"min\":4},{\"name\":\"c\",\"size\":4,\"min\":4}]}";
 
 // A sixth of 13 epochs is 2: so the first curve of a chart and the third have their marks in the 7 even epochs, and the second in
-// the 6 odd ones. The first two numbers are also those of the curves of the pages.
+// the 6 odd ones; each has one more in its legend. The first two numbers are also those of the curves of the pages.
 #[test]
 fn marks_are_a_sixth_apart(rt: HostRuntime) {
     let svg = drawn(&rt, MARKED);
-    assert_count(&rt, &svg, " dy=\"4\">1</text>", 14);
-    assert_count(&rt, &svg, " dy=\"4\">2</text>", 12);
-    assert_count(&rt, &svg, " dy=\"4\">3</text>", 7);
-    // the last mark of the third guest is in the middle of epoch 12, from 812 to 880, on the line of the value 4 of 5
+    assert_count(&rt, &svg, " dy=\"4\">1</text>", 16);
+    assert_count(&rt, &svg, " dy=\"4\">2</text>", 14);
+    assert_count(&rt, &svg, " dy=\"4\">3</text>", 8);
+    // the last mark of the third guest is in the middle of epoch 12, from 812 to 880, on the line of the value 4 of 4
     assert_shows(
         &rt,
         &svg,
-        "cx=\"936\" cy=\"550\" r=\"8\"/><text class=\"number\" x=\"936\" y=\"550\" dy=\"4\">3</text>",
+        "cx=\"936\" cy=\"555\" r=\"8\"/><text class=\"number\" x=\"936\" y=\"555\" dy=\"4\">3</text>",
     );
 }
 
@@ -111,8 +124,8 @@ const NO_EPOCHS: &str = "{\"version\":1,\"frames\":10,\"epochs\":0,\"guests\":[]
 #[test]
 fn a_run_may_have_no_guest_and_no_epoch(rt: HostRuntime) {
     let svg = drawn(&rt, NO_GUESTS);
-    assert_shows(&rt, &svg, "d=\"M0,200H440L440,200H880\"/>");
+    assert_shows(&rt, &svg, "d=\"M0,200H880\"><title>free frames</title>");
     assert_count(&rt, &svg, "class=\"curve\"", 4);
     let svg = drawn(&rt, NO_EPOCHS);
-    assert_count(&rt, &svg, "d=\"\"/>", 4);
+    assert_count(&rt, &svg, "d=\"\"><title>", 4);
 }

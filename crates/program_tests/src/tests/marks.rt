@@ -114,31 +114,44 @@ fn round_step(least: u64) -> u64 {
 struct Chart {
     base: u64,
     step: u64,
+    parts: u64,
     top: u64,
     ghost has_height: { 0 < top },
 }
 
+// The least number of round steps that reach a value, of which five would do.
 fn reaching(base: u64, greatest: u64) -> Chart {
-    let step = round_step(greatest / 5 + u64::from(!greatest.is_multiple_of(5)));
-    let top = step.saturating_mul(5).max(greatest).max(1);
-    Chart { base, step, top }
+    let step = round_step(greatest / 5 + u64::from(!greatest.is_multiple_of(5))).max(1);
+    let parts = (greatest / step).saturating_add(u64::from(!greatest.is_multiple_of(step)));
+    let parts = parts.max(1);
+    let top = step.saturating_mul(parts).max(1);
+    Chart {
+        base,
+        step,
+        parts,
+        top,
+    }
+}
+
+// In how many lines a legend has the guests of a run, whose names have two letters: so eight are in a line.
+fn lines_of(guests: u64) -> u64 {
+    guests / 8 + u64::from(!guests.is_multiple_of(8))
 }
 
 // The chart of the pages, below the legend of the guests that ever run.
 fn page_scale(alloc: Global, rows: &[EpochRow], guests: u64) -> Result<Chart, AllocError> {
     let swapped = greatest_of(alloc, rows, Measure::Total(Pages::SwappedOut))?;
     let ballooned = greatest_of(alloc, rows, Measure::Total(Pages::Ballooned))?;
-    let lines = guests / 4 + u64::from(!guests.is_multiple_of(4));
-    let base = lines.saturating_mul(24).saturating_add(1022);
+    let base = lines_of(guests).saturating_mul(24).saturating_add(1043);
     Ok(reaching(base, swapped.max(ballooned)))
 }
 
 // The lines of a scale, with their values.
 fn push_grid(text: &mut String, chart: Chart) -> Result<(), AllocError> {
-    for part in 0..6u64 {
-        let y = chart.base.saturating_sub(part.saturating_mul(40));
-        let below = y.saturating_add(4);
+    for part in 0..chart.parts.saturating_add(1) {
         let value = chart.step.saturating_mul(part);
+        let y = u128::from(chart.base).saturating_sub(y_of(chart.top, value));
+        let below = y.saturating_add(4);
         writeln!(text, "<path class=\"grid\" d=\"M90,{y}H970\"/>")?;
         writeln!(
             text,
@@ -167,6 +180,20 @@ fn is_marked(epochs: usize, epoch: usize, number: u64) -> bool {
     epoch as u64 % stride == number % stride
 }
 
+fn colour(number: u64) -> &'static str {
+    match number {
+        0 => "#000000",
+        1 => "#E69F00",
+        2 => "#56B4E9",
+        3 => "#009E73",
+        4 => "#B3A000",
+        5 => "#0072B2",
+        6 => "#D55E00",
+        7 => "#CC79A7",
+        _ => "#E69F00",
+    }
+}
+
 // The mark of a curve in an epoch, if it has one there.
 fn push_mark(
     text: &mut String,
@@ -188,9 +215,10 @@ fn push_mark(
     let x = (left.saturating_add(right) / 2).saturating_add(90);
     let y = u128::from(chart.base).saturating_sub(y_of(chart.top, value));
     let shown = number.saturating_add(1);
+    let stroke = colour(number);
     write!(
         text,
-        "<circle class=\"mark\" cx=\"{x}\" cy=\"{y}\" r=\"8\"/>"
+        "<circle class=\"mark\" stroke=\"{stroke}\" cx=\"{x}\" cy=\"{y}\" r=\"8\"/>"
     )?;
     writeln!(
         text,
@@ -218,7 +246,7 @@ fn push_marks(
 // The scale and the marks of the chart of the targets.
 fn target_pieces(alloc: Global, series: &Series) -> Result<[String; 2], AllocError> {
     let (rows, positions) = (series.rows(), series.names().len());
-    let chart = reaching(710, greatest_target(alloc, rows, positions)?);
+    let chart = reaching(755, greatest_target(alloc, rows, positions)?);
     let (mut grid, mut marks) = (String::new(alloc), String::new(alloc));
     push_grid(&mut grid, chart)?;
     for position in 0..positions {
@@ -245,15 +273,22 @@ fn marks_in(text: &String) -> usize {
     text.as_str().matches(" dy=\"4\">").count()
 }
 
-// Asserts that a drawing has these scales and marks, and no other marks.
-fn assert_pieces(rt: &impl Abort, svg: &String, targets: &[String; 2], pages: &[String; 2]) {
+// Asserts that a drawing has these scales and marks, and no other marks but those of the legends.
+fn assert_pieces(
+    rt: &impl Abort,
+    svg: &String,
+    guests: u64,
+    targets: &[String; 2],
+    pages: &[String; 2],
+) {
     let [target_grid, target_marks] = targets;
     let [page_grid, page_marks] = pages;
     for piece in [target_grid, target_marks, page_grid, page_marks] {
         assert_shows(rt, svg, piece.as_str());
     }
     let marks = marks_in(target_marks).saturating_add(marks_in(page_marks));
-    assert_count(rt, svg, " dy=\"4\">", marks);
+    let entries = guests.saturating_add(2) as usize;
+    assert_count(rt, svg, " dy=\"4\">", marks.saturating_add(entries));
 }
 
 // Asserts the scales and marks of a run's drawing.
@@ -266,7 +301,8 @@ fn assert_drawn(
     let svg = String::from_utf8(svg_text(alloc, &series)?).expect(rt, "a text");
     let targets = target_pieces(alloc, &series)?;
     let pages = page_pieces(alloc, &series)?;
-    assert_pieces(rt, &svg, &targets, &pages);
+    let guests = guests_of(alloc, series.rows(), series.names().len())?;
+    assert_pieces(rt, &svg, guests, &targets, &pages);
     Ok(())
 }
 
@@ -333,7 +369,7 @@ fn run_of(alloc: Global, epochs: usize, guests: usize) -> Result<String, AllocEr
 }
 
 // A mark falls in each epoch where there are fewer than twelve, in every second one of fewer than eighteen, and in every third one of
-// eighteen; so each curve has gaps where a mark would be. A legend has four guests in a line.
+// eighteen; so each curve has gaps where a mark would be. A legend has eight guests in a line.
 #[test]
 fn marks_and_scales_follow_from_the_samples(rt: HostRuntime) -> Result<(), Fail> {
     for epochs in [0, 1, 5, 6, 7, 11, 12, 13, 14, 18] {

@@ -1,0 +1,14 @@
+//! What is true of every picture, by the definitions alone.
+ghost use Rattle.std.specs.Prelude.{ℕ, List, codes, length};
+ghost use Rattle.vm_series.specs.Rows.{Rows};
+ghost use Rattle.vm_charts.specs.declared.scale.Axis.{Axis};
+ghost use Rattle.vm_charts.specs.Drawing.{Chart};
+ghost use Rattle.vm_charts.specs.Series.{drawing_of};
+ghost use Rattle.vm_charts.specs.Stacked.{AreStacked, Each, HasWords};
+
+/// No chart of a picture reaches into the room of another one, and no value leaves its chart; so in the picture of each series.
+pub fn law_stacked()
+    ensures charts { (along : List ℕ) (axis : Axis) (y : ℕ) (charts : List Chart) → Each HasWords charts
+        → AreStacked along axis y charts }
+    ensures series { (s : Rows) → AreStacked (drawing_of s).along (drawing_of s).axis 70 (drawing_of s).charts }
+{}
