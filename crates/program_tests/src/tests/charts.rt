@@ -1,8 +1,10 @@
 // Charts of whole runs: the places of the curves are worked out by hand from the rows of the runs.
 use super::setup::LOW_AND_BACK;
+use std::alloc::{AllocError, Global};
 use std::process::Abort;
+use std::test::Fail;
 use std::thread::Threads;
-use vm_charts::svg_text;
+use vm_charts::{Axis, Chart, Curve, Drawing, draw, svg_text};
 use vm_host::Open;
 use vm_series::collect_series;
 
@@ -128,4 +130,53 @@ fn a_run_may_have_no_guest_and_no_epoch(rt: HostRuntime) {
     assert_count(&rt, &svg, "class=\"curve\"", 4);
     let svg = drawn(&rt, NO_EPOCHS);
     assert_count(&rt, &svg, "d=\"\"><title>", 4);
+}
+
+// A curve with a gap, of values at the places 10, 15, 20 and 30.
+fn straight_curve(alloc: Global) -> Result<Curve, AllocError> {
+    let values = Vec::from_slice(alloc, &[Some(4), Some(0), None, Some(8)])?;
+    let places = Vec::from_slice(alloc, &[10, 15, 20, 30])?;
+    let name = String::from_str(alloc, "tax 0")?;
+    Ok(Curve::straight(0, name, values, places))
+}
+
+// A drawing of that curve alone.
+fn straight_drawing(alloc: Global) -> Result<Vec<u8>, AllocError> {
+    let title = String::from_str(alloc, "Pages")?;
+    let unit = String::from_str(alloc, "pages")?;
+    let mut curves = Vec::new(alloc);
+    curves.push(straight_curve(alloc)?)?;
+    let chart = Chart::new(title, unit, Vec::new(alloc), curves, true);
+    let mut charts = Vec::new(alloc);
+    charts.push(chart)?;
+    let title = String::from_str(alloc, "A sweep")?;
+    let note = String::from_str(alloc, "of machines")?;
+    let along = String::from_str(alloc, "frames")?;
+    let axis = Axis {
+        first: 10,
+        last: 30,
+        is_open: false,
+    };
+    let drawing = Drawing::new(title, note, along, axis, charts);
+    draw(alloc, &drawing)
+}
+
+// The scale ends at 8, and the axis has a tick at its end too; the marks stand at the values.
+#[test]
+fn straight_curves_join_their_values(rt: HostRuntime) -> Result<(), Fail> {
+    let text = straight_drawing(rt.alloc())?;
+    let svg = String::from_utf8(text).expect(&rt, "a text");
+    let pieces = [
+        "width=\"1010\" height=\"382\"",
+        " d=\"M0,100L220,0M880,200\"><title>tax 0</title>",
+        "<path class=\"tick\" d=\"M970,304v6\"/>\n<text class=\"middle\" x=\"970\" y=\"324\">30</text>",
+        "cx=\"310\" cy=\"304\" r=\"8\"/>",
+        "cx=\"970\" cy=\"104\" r=\"8\"/>",
+        ">frames</text>",
+    ];
+    for piece in pieces {
+        assert_shows(&rt, &svg, piece);
+    }
+    assert_count(&rt, &svg, "class=\"tick\"", 11);
+    Ok(())
 }
