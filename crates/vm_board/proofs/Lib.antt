@@ -1,4 +1,5 @@
 pub mod Sums
+pub mod Gates
 pub mod Rounds
 pub mod Slots
 pub mod Tickets

@@ -4,6 +4,7 @@ pub mod Values
 pub mod Rounds
 pub mod States
 pub mod Boards
+pub mod Gates
 pub mod Hands
 pub mod Tickets
 pub mod Shown

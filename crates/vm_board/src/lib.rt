@@ -13,14 +13,16 @@ mod law;
 mod making;
 mod pass;
 mod plays;
+mod ran;
 mod round;
 mod steps;
 mod work;
 
 pub use board::Board;
-pub use gate::{Gate, Open};
+pub use gate::{Gate, Open, pass_through};
 pub use jobs::{Jobs, Refused, Room};
 pub use law::{law_board, law_interleave};
 pub use pass::{Pass, Passes};
+pub use ran::Ran;
 pub use round::run_round;
 pub use work::Work;

@@ -1,6 +1,7 @@
 //! A round of jobs, each run once.
-ghost use Rattle.std.specs.Prelude.{◌≡◌, ◌<◌, ◌≤◌, length, map, All, IfOk, IfErr, OnErr};
-ghost use Rattle.vm_board.specs.Boards.{IsIdle, IsOver};
+ghost use Rattle.std.specs.Prelude.{◌≡◌, ◌<◌, ◌≤◌, length, map, All, IfOk, IfErr, OnErr, OnOk};
+ghost use Rattle.vm_board.specs.Boards.{IsNew, IsOver};
+ghost use Rattle.vm_board.specs.Gates.{HasPassed, PassedOnce, Rises};
 ghost use Rattle.vm_board.specs.Pieces.{finished};
 
 use crate::board::Board;
@@ -17,7 +18,8 @@ use std::thread::Threads;
 /// Each thread draws a job, enters the gate, runs it, leaves the gate and finishes it, until none is left. With one
 /// worker or one job there is no thread beside the caller's, and a thread that can't be started is done without. It may
 /// wait for its threads to end. Where a request for memory is refused, which is only where there are jobs, they come back,
-/// none run.
+/// none run. Each number passes the gate once: a thread does so with the numbers that it drew, which rise.
+#[tactic(auto, using(crate::proofs::Gates::passed_none))]
 pub fn run_round<R: Threads + Sync, G: Gate + Sync, J: Work + Send>(
     rt: &R,
     alloc: Global,
@@ -31,6 +33,7 @@ pub fn run_round<R: Threads + Sync, G: Gate + Sync, J: Work + Send>(
     ensures ok { IfOk result (λ done. done ≡ map (finished J.pieces J.piece) jobs) }
     ensures err { IfErr result (λ e. e.jobs ≡ jobs) }
     ensures memory { OnErr result (0 < length jobs) }
+    ensures passed { OnOk result (PassedOnce G.passed workers (length jobs)) }
 {
     if jobs.is_empty() {
         return Ok(jobs);
@@ -50,13 +53,29 @@ fn drain_all<R: Threads + Sync, G: Gate + Sync, J: Work + Send>(
     passes: &mut [Pass<J>],
 )
     requires workers { 0 < workers }
-    requires passes { All (IsIdle board.now) passes.old }
-    ensures { All (IsOver board.now) passes.new }
+    requires passes { All (IsNew board.now) passes.old }
+    ensures over { All (IsOver board.now) passes.new }
+    ensures passed { All (λ pass. HasPassed G.passed pass.drawn) passes.new }
+    ensures rise { All (λ pass. Rises pass.drawn) passes.new }
+    ensures same { length passes.new ≡ length passes.old }
 {
     thread::for_each_mut(
         rt,
         passes,
         workers as usize,
-        &|_: usize, pass: &mut Pass<J>| { board.drain(gate, pass) },
+        &|_: usize, pass: &mut Pass<J>|
+            requires { IsNew board.now pass.now }
+            ensures { IsOver board.entry.now pass.exit.now × HasPassed G.passed pass.exit.now.drawn × Rises pass.exit.now.drawn }
+        { drain_new(board, gate, pass) },
     );
+}
+
+// A pass that has drawn nothing yet drains the board.
+fn drain_new<G: Gate, J: Work>(board: &Board<J>, gate: &G, pass: &mut Pass<J>)
+    requires { IsNew board.now pass.old }
+    ensures over { IsOver board.now pass.new }
+    ensures passed { HasPassed G.passed pass.new.drawn }
+    ensures rises { Rises pass.new.drawn }
+{
+    board.drain(gate, pass)
 }

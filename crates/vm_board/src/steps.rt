@@ -1,9 +1,10 @@
 //! Drawing and finishing.
-ghost use Rattle.std.specs.Prelude.{◌≡◌, IfSome, IfNone, IsNone, Some, true, false};
+ghost use Rattle.std.specs.Prelude.{◌≡◌, ◌++◌, ℕ, List, IfSome, IfNone, IsNone, Some, true, false};
 ghost use Rattle.vm_board.specs.Boards.{IsPassOf, IsIdle, IsOver, IsDraw, IsResult, ended, empty_handed};
+ghost use Rattle.vm_board.specs.Gates.{HasPassed, Rises};
 
 use crate::board::Board;
-use crate::gate::Gate;
+use crate::gate::{Gate, pass_through};
 use crate::pass::Pass;
 use crate::plays::{Brief, Draw, Finish};
 use crate::work::Work;
@@ -64,12 +65,13 @@ impl<J: Work> Board<J> {
     /// It may wait only where the gate does.
     pub fn drain<G: Gate>(&self, gate: &G, pass: &mut Pass<J>)
         requires { IsIdle self.now pass.old }
-        ensures { IsOver self.now pass.new }
+        ensures over { IsOver self.now pass.new }
+        ensures passed { (numbers : List ℕ) × (pass.new.drawn ≡ pass.old.drawn ++ numbers) × HasPassed G.passed numbers }
+        ensures rises { Rises pass.old.drawn → Rises pass.new.drawn }
     {
+        let mut outside = gate.arrive();
         while let Some((number, mut job)) = self.draw(pass) {
-            gate.enter(number);
-            job.run();
-            gate.leave(number);
+            outside = pass_through(gate, outside, number, &mut job);
             self.finish(pass, number, job);
         }
     }

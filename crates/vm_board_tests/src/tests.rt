@@ -7,7 +7,7 @@ use std::sync::atomic::{AtomicU64, Ordering};
 use std::test::Fail;
 use std::thread::{Threads, join};
 use std::{array, thread};
-use vm_board::{Board, Gate, Jobs, Open, Pass, Work, run_round};
+use vm_board::{Board, Gate, Jobs, Open, Pass, Ran, Work, run_round};
 
 // A job that counts its own runs.
 #[derive(Drop)]
@@ -89,7 +89,19 @@ fn nobody_met() -> Meeting {
 }
 
 impl Gate for Meeting {
-    fn enter(&self, number: u32) {
+    ghost use Rattle.std.specs.Prelude.{⊤};
+
+    type Outside = ();
+
+    type Inside = ();
+
+    ghost passed = { λ _ _. ⊤ };
+
+    ghost inside = { λ _ _ _. ⊤ };
+
+    fn arrive(&self) {}
+
+    fn enter(&self, _outside: (), number: u32) {
         if number >= 2 {
             return;
         }
@@ -105,7 +117,9 @@ impl Gate for Meeting {
         }
     }
 
-    fn leave(&self, _number: u32) {}
+    fn leave(&self, _ran: Ran<()>, _number: u32)
+        ensures { ⊤ }
+    {}
 }
 
 // How many are inside, and the most that ever were; how many entered, and how many left that had entered.
@@ -118,7 +132,19 @@ struct Turnstile {
 }
 
 impl Gate for Turnstile {
-    fn enter(&self, number: u32) {
+    ghost use Rattle.std.specs.Prelude.{⊤};
+
+    type Outside = ();
+
+    type Inside = ();
+
+    ghost passed = { λ _ _. ⊤ };
+
+    ghost inside = { λ _ _ _. ⊤ };
+
+    fn arrive(&self) {}
+
+    fn enter(&self, _outside: (), number: u32) {
         let now = self.inside.fetch_add(1, Ordering::SeqCst);
         self.most.fetch_max(now.wrapping_add(1), Ordering::SeqCst);
         if number < 64 {
@@ -127,7 +153,9 @@ impl Gate for Turnstile {
         thread::yield_now();
     }
 
-    fn leave(&self, number: u32) {
+    fn leave(&self, _ran: Ran<()>, number: u32)
+        ensures { ⊤ }
+    {
         if number < 64 && self.entered[number as usize].load(Ordering::SeqCst) == 1 {
             self.left[number as usize].fetch_add(1, Ordering::SeqCst);
         }
@@ -241,7 +269,10 @@ fn drain_each<R: Threads + Sync, J: Work + Send>(rt: &R, board: &Board<J>, passe
         rt,
         passes,
         1,
-        &|_: usize, pass: &mut Pass<J>| { board.drain(&Open, pass) },
+        &|_: usize, pass: &mut Pass<J>|
+            requires { IsIdle board.now pass.now }
+            ensures { IsOver board.entry.now pass.exit.now }
+        { board.drain(&Open, pass) },
     );
 }
 
@@ -311,7 +342,62 @@ fn new_turnstile() -> Turnstile {
     }
 }
 
-// No clause says that a gate is entered or left, nor how many threads there are.
+// A gate whose threads remember the last number with which they passed, and that counts the numbers that do not rise.
+#[derive(Drop)]
+struct Rising {
+    falls: AtomicU64,
+}
+
+impl Gate for Rising {
+    ghost use Rattle.std.specs.Prelude.{◌≡◌, ◌++◌, ◌∷◌, ℕ, List, [], IfNone, IfSome};
+
+    // The last number that passed.
+    type Outside = Option<u32>;
+
+    // The number that is inside.
+    type Inside = u32;
+
+    ghost passed = { λ last numbers. IfNone last (numbers ≡ []) × IfSome last (λ n. (before : List ℕ) × (numbers ≡ before ++ n ∷ [])) };
+
+    ghost inside = { λ here _ number. here ≡ number };
+
+    fn arrive(&self) -> Option<u32> {
+        None
+    }
+
+    fn enter(&self, outside: Option<u32>, number: u32) -> u32 {
+        if outside.is_some_and(|last| number <= last) {
+            self.falls.fetch_add(1, Ordering::SeqCst);
+        }
+        number
+    }
+
+    fn leave(&self, ran: Ran<u32>, number: u32) -> Option<u32>
+        ensures { (before : List ℕ) → ran ≡ number
+            → IfNone result (before ++ number ∷ [] ≡ []) × IfSome result (λ n. (front : List ℕ) × (before ++ number ∷ [] ≡ front ++ n ∷ [])) }
+    {
+        Some(ran.into_inside())
+    }
+}
+
+// Each thread takes its numbers through in rising order, whatever their number.
+#[test]
+fn numbers_of_a_thread_rise(rt: HostRuntime) -> Result<(), Fail> {
+    for workers in [1, 3, 64] {
+        let gate = Rising {
+            falls: AtomicU64::new(0),
+        };
+        let Ok(done) = run_round(&rt, rt.alloc(), &gate, workers, tallies(rt.alloc(), 64)?) else {
+            panic!(rt; "memory")
+        };
+        assert!(rt; ran(done, 64, 1));
+        assert_eq!(rt; gate.falls.load(Ordering::SeqCst), 0, "{workers} workers");
+    }
+    Ok(())
+}
+
+// A gate that remembers nothing itself counts as a clause says: each number enters once and leaves once. How many threads there are no
+// clause says.
 #[test]
 fn each_number_passes_the_gate_once(rt: HostRuntime) -> Result<(), Fail> {
     for workers in [1, 3, 64] {
@@ -342,7 +428,7 @@ fn a_refused_board_hands_the_jobs_back(rt: HostRuntime) -> Result<(), Fail> {
     Ok(())
 }
 
-// And none has entered the gate, which no clause says.
+// And none has entered the gate, which no clause says: it speaks of rounds that were run.
 #[test]
 fn a_refused_round_hands_the_jobs_back(rt: HostRuntime) -> Result<(), Fail> {
     let gate = new_turnstile();
@@ -454,14 +540,28 @@ struct Watch<'m> {
 }
 
 impl Gate for Watch<'_> {
-    fn enter(&self, number: u32) {
+    ghost use Rattle.std.specs.Prelude.{⊤};
+
+    type Outside = ();
+
+    type Inside = ();
+
+    ghost passed = { λ _ _. ⊤ };
+
+    ghost inside = { λ _ _ _. ⊤ };
+
+    fn arrive(&self) {}
+
+    fn enter(&self, _outside: (), number: u32) {
         let marks = self.marks;
         if number < 8 {
             marks.entered[number as usize].fetch_add(1, Ordering::SeqCst);
         }
     }
 
-    fn leave(&self, number: u32) {
+    fn leave(&self, _ran: Ran<()>, number: u32)
+        ensures { ⊤ }
+    {
         let marks = self.marks;
         if number < 8 && marks.ran[number as usize].load(Ordering::SeqCst) == 1 {
             marks.left[number as usize].fetch_add(1, Ordering::SeqCst);
@@ -480,7 +580,7 @@ fn witnesses<'a>(alloc: Global, marks: &'a Marks) -> Result<Jobs<Witness<'a>>, A
     Ok(Jobs::from(list))
 }
 
-// Each number enters, runs and leaves, in this order. No clause says so, since a gate has no state that one could name.
+// Each number enters, runs and leaves, in this order.
 #[test]
 fn a_job_runs_inside_its_gate(rt: HostRuntime) -> Result<(), Fail> {
     let all = no_marks();

@@ -1,5 +1,6 @@
 ghost use Rattle.std.specs.Prelude.{◌≡◌, ◌≢◌, ◌<◌, ◌≤◌, ◌↔◌, ◌⊎◌, IfErr, IfOk, IsTrue, Err, OnErr, OnOk, length, slice_get};
 ghost use Rattle.std.specs.Option.{option_map};
+ghost use Rattle.vm_board.specs.Gates.{PassedOnce};
 ghost use Rattle.vm_domains.specs.Domains.{place_of};
 ghost use Rattle.vm_guest.specs.Good.{IsGood};
 ghost use Rattle.vm_guest.specs.View.{view_of};
@@ -129,7 +130,8 @@ impl Host {
 
     /// Each running guest runs its epoch, on at most `workers` threads, the caller's among them. What comes of it is the same as
     /// if they ran in the order of the domains. Running guests are numbered in that order, from 0; a thread enters the gate with a
-    /// guest's number before it runs the guest, and leaves it after.
+    /// guest's number before it runs the guest, and leaves it after. Each number passes the gate once, and the numbers of each thread
+    /// rise.
     ///
     /// It asks for a boundary since the last epoch, or for a host that has failed, which `ready` tells. `Failed` comes exactly from
     /// a host that has failed. `Memory` comes before any guest runs its epoch, and only where there are guests that run. Both leave the
@@ -149,6 +151,7 @@ impl Host {
         ensures memory { result ≡ Err NoMemory → 0 < running_count self.old.pool.guests }
         ensures conserves { Conserves self.new }
         ensures good { OnOk result (EachGuest IsGood self.new.pool) }
+        ensures passed { OnOk result (PassedOnce G.passed workers (running_count self.old.pool.guests)) }
     {
         if self.parts.phase == Phase::Failed {
             return Err(HostError::Failed);

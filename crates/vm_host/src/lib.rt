@@ -43,5 +43,5 @@ pub use lines::Lines;
 pub use phase::Phase;
 pub use vm_domains::{Domains, MachineSpec, Percents};
 pub use vm_plan::{Plan, State};
-pub use vm_pool::{Gate, GuestSpec, GuestView, Open, PageRead, Stats};
+pub use vm_pool::{Gate, GuestSpec, GuestView, Open, PageRead, Ran, Stats};
 pub use vm_reclaim::{Blocked, Paged, Paging};

@@ -1,11 +1,13 @@
 -- Whether a guest runs in any of a list of slots.
-use Rattle.std.proofs.Common.{◌≡◌, ◌<◌, ℕ, zero, suc, List, [], ◌∷◌, ap, arith, get_or, length, map, refl}
-use Rattle.std.specs.Prelude.{IsTrue, Option, Some, None, false, true}
+use Rattle.std.proofs.Common.{◌≡◌, ◌+◌, ◌<◌, ℕ, zero, suc, List, [], ◌∷◌, ap, arith, get_or, length, map, refl}
+use Rattle.std.specs.Prelude.{IsTrue, OnOk, Option, Some, None, Result, Ok, Err, false, true}
 use Rattle.std.specs.Option.{is_some, option_map}
 use Rattle.vm_pool.specs.declared.slot.Slot.{Slot}
 use Rattle.vm_pool.specs.declared.slot.Slot.TheVariants.{Stopped, Running, Away}
-use Rattle.vm_pool.specs.Pool.{running_count}
+use Rattle.vm_pool.specs.Pool.{one_if_runs, running_count}
 use Rattle.vm_pool.specs.Slots.{guest_in, slot_run}
+use Rattle.vm_pool.specs.Turns.{running_in}
+use Rattle.vm_pool.proofs.FirstLemmas.{first_total}
 
 -- none does
 pub none-running : (slots : List Slot) → ((k : ℕ) → k < length slots → guest_in (get_or slots k Away) ≡ None) → running_count (map guest_in slots) ≡ 0
@@ -42,3 +44,18 @@ idle-run (Away ∷ slots) none = ap (λ rest. Away ∷ rest) (idle-run slots (om
 pub not-more : (n : ℕ) → (0 < n → IsTrue false) → n ≡ 0
 not-more zero more = refl
 not-more (suc n) more = let no : false ≡ true = more (omega arith) in absurd (cc)
+
+-- those that run, one after the other
+pub all-running : (slots : List Slot) → first_total (λ slot. one_if_runs (guest_in slot)) (length slots) slots ≡ running_count (map guest_in slots)
+all-running [] = refl
+all-running (slot ∷ slots) = ap (λ n. one_if_runs (guest_in slot) + n) (all-running slots)
+
+pub length-running : (slots : List Slot) → length (running_in slots) ≡ running_count (map guest_in slots)
+length-running [] = refl
+length-running (Stopped config ∷ slots) = let rest = length-running slots in omega (arith, rest)
+length-running (Running s ∷ slots) = let rest = length-running slots in omega (arith, rest)
+length-running (Away ∷ slots) = let rest = length-running slots in omega (arith, rest)
+
+pub on-ok : {A E : Type 0} (r : Result A E) (P Q : Type 0) → (P → Q) → OnOk r P → OnOk r Q
+on-ok (Ok a) P Q more h = more h
+on-ok (Err e) P Q more h = h

@@ -14,7 +14,7 @@
 //! `IsPool`), which each call is proved to keep. [`Pool::close`] has no clause, since no pool is left to speak of: it ends in
 //! `vm_frames::Machine::close`, which may be called only with every frame back, and this is proved of it.
 //!
-//! That threads run at once, and that a gate is entered and left, is tested and not proved.
+//! That threads run at once is tested and not proved.
 #![tactic(auto)]
 
 mod aside;
@@ -28,5 +28,5 @@ mod turn;
 
 pub use law::law_conserves;
 pub use pool::Pool;
-pub use vm_board::{Gate, Open};
+pub use vm_board::{Gate, Open, Ran};
 pub use vm_guest::{GuestSpec, GuestView, PageRead, Stats};

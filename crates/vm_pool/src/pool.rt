@@ -1,5 +1,6 @@
 ghost use Rattle.std.specs.Prelude.{◌≡◌, ℕ, ◌+◌, ◌<◌, ◌≤◌, ◌↔◌, IfOk, IfErr, IfSome, IsSome, IsSomeAnd, OnOk, OnErr, IsTrue, None, [], fold, length, map, replicate, slice_get, vec_len, vec_capacity};
 ghost use Rattle.std.specs.Option.{option_map};
+ghost use Rattle.vm_board.specs.Gates.{PassedOnce};
 ghost use Rattle.vm_guest.specs.Boundary.{ordered, revoked, serviced, with_cap, with_shares, without_spares};
 ghost use Rattle.vm_guest.specs.Good.{HasNothingPosted, IsGood};
 ghost use Rattle.vm_guest.specs.Record.{reserve};
@@ -367,7 +368,8 @@ impl Pool {
     }
 
     /// Each running guest runs its epoch, on at most `workers` threads, the caller's among them. Guests are numbered in order;
-    /// a thread enters the gate with a guest's number before it runs the guest, and leaves it after.
+    /// a thread enters the gate with a guest's number before it runs the guest, and leaves it after. Each number passes it once, and
+    /// the numbers of each thread rise.
     ///
     /// Where the gate never waits, no more threads are used than have enough to do: a short epoch doesn't wait for threads to start.
     ///
@@ -385,6 +387,7 @@ impl Pool {
         ensures done { OnOk result (self.new ≡ after_epoch self.old) }
         ensures unchanged { OnErr result (self.new ≡ self.old) }
         ensures memory { OnErr result (0 < running_count self.old.guests) }
+        ensures passed { OnOk result (PassedOnce G.passed workers (running_count self.old.guests)) }
     {
         run_epochs(rt, alloc, gate, workers, &mut self.slots)?;
         Ok(())

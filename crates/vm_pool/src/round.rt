@@ -1,9 +1,11 @@
 // The epochs of all guests, on threads.
 ghost use Rattle.std.specs.Prelude.{◌≡◌, ◌+◌, ◌*◌, ◌^◌, ◌++◌, ◌<◌, ◌≤◌, [], ◌∷◌, All, EachIndex, IfOk, IfErr, IsTrue, ◌↔◌, OnOk, OnErr, count_by, length, map, false, true, vec_len, vec_capacity, slice_index_or};
+ghost use Rattle.std.specs.List.{range_with_len};
+ghost use Rattle.vm_board.specs.Gates.{HasPassed, PassedOnce};
 ghost use Rattle.vm_pool.specs.declared.slot.Slot.TheVariants.{Away};
 ghost use Rattle.vm_pool.specs.Changes.{IsServed};
 ghost use Rattle.vm_pool.specs.Guests.{number_of, total};
-ghost use Rattle.vm_pool.specs.Pool.{running_count};
+ghost use Rattle.vm_pool.specs.Pool.{one_if_runs, running_count};
 ghost use Rattle.vm_pool.specs.Slots.{guest_in, is_away, is_prepared, slot_run, unprepared, IsSettled};
 ghost use Rattle.vm_pool.specs.Threads.{beside_of, gain_of, pages_of, start_of, step_time, steps_of};
 ghost use Rattle.vm_pool.specs.Turns.{back_in, left_slot, running_in, Arrives, MayRun};
@@ -13,7 +15,7 @@ use crate::turn::Turn;
 use std::alloc::{AllocError, Global};
 use std::mem;
 use std::thread::Threads;
-use vm_board::{Gate, Jobs, run_round};
+use vm_board::{Gate, Jobs, pass_through, run_round};
 use vm_guest::WorkAhead;
 
 // Nanoseconds of a step whose page is in a cache.
@@ -47,6 +49,7 @@ pub(crate) fn run_epochs<R: Threads + Sync, G: Gate + Sync>(
     ensures run { OnOk result (slots.new ≡ map slot_run slots.old) }
     ensures same { OnErr result (map unprepared slots.new ≡ map unprepared slots.old) }
     ensures memory { OnErr result (0 < running_count (map guest_in slots.old)) }
+    ensures passed { OnOk result (PassedOnce G.passed workers (running_count (map guest_in slots.old))) }
 {
     if !has_guests(slots) {
         return Ok(());
@@ -175,6 +178,7 @@ fn run_alone<G: Gate>(gate: &G, slots: &mut [Slot]) -> Result<(), AllocError>
     requires served { All IsServed (map guest_in slots.old) }
     ensures run { OnOk result (slots.new ≡ map slot_run slots.old) }
     ensures same { OnErr result (map unprepared slots.new ≡ map unprepared slots.old) }
+    ensures passed { OnOk result (HasPassed G.passed (range_with_len 0 (running_count (map guest_in slots.old)))) }
 {
     prepare_all(slots)?;
     run_in_order(gate, slots);
@@ -185,27 +189,32 @@ fn run_alone<G: Gate>(gate: &G, slots: &mut [Slot]) -> Result<(), AllocError>
 fn run_in_order<G: Gate>(gate: &G, slots: &mut [Slot])
     requires few { length slots.old ≤ 256 }
     requires ready { All MayRun slots.old }
-    ensures { slots.new ≡ map slot_run slots.old }
+    ensures run { slots.new ≡ map slot_run slots.old }
+    ensures passed { HasPassed G.passed (range_with_len 0 (running_count (map guest_in slots.old))) }
 {
+    let mut outside = gate.arrive();
     let mut number = 0;
     for slot in slots.iter_mut() {
-        run_here(gate, &mut number, slot);
+        outside = run_here(gate, outside, &mut number, slot);
     }
 }
 
 // The guest of a slot, if one runs there, passes the gate with the next number and runs its epoch.
-fn run_here<G: Gate>(gate: &G, number: &mut u32, slot: &mut Slot)
+fn run_here<G: Gate>(gate: &G, outside: G::Outside, number: &mut u32, slot: &mut Slot) -> G::Outside
     requires few { number.old < 256 }
     requires ready { MayRun slot.old }
+    requires passed { G.passed outside (range_with_len 0 number.old) }
     ensures run { slot.new ≡ slot_run slot.old }
-    ensures number { number.new ≤ number.old + 1 }
+    ensures number { number.new ≡ number.old + one_if_runs (guest_in slot.old) }
+    ensures few { number.new ≤ number.old + 1 }
+    ensures passed { G.passed result (range_with_len 0 number.new) }
 {
-    if let Slot::Running(guest) = slot {
-        gate.enter(*number);
-        guest.run_epoch();
-        gate.leave(*number);
-        *number += 1;
+    if guest_of(slot).is_none() {
+        return outside;
     }
+    let outside = pass_through(gate, outside, *number, slot);
+    *number += 1;
+    outside
 }
 
 // The same on threads, which asks for memory even where no guest runs.
@@ -222,6 +231,7 @@ fn run_turns<R: Threads + Sync, G: Gate + Sync>(
     requires served { All IsServed (map guest_in slots.old) }
     ensures run { OnOk result (slots.new ≡ map slot_run slots.old) }
     ensures same { OnErr result (map unprepared slots.new ≡ map unprepared slots.old) }
+    ensures passed { OnOk result (PassedOnce G.passed workers (running_count (map guest_in slots.old))) }
 {
     prepare_all(slots)?;
     let turns = Vec::with_capacity(alloc, slots.len())?;

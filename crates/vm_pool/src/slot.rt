@@ -16,6 +16,7 @@ ghost use Rattle.vm_pool.specs.Slots.{config_in, guest_in, holders, holds, is_aw
 use crate::{granting, minimum};
 use std::alloc::{AllocError, Global};
 use std::mem;
+use vm_board::Work;
 use vm_frames::{Frame, Machine};
 use vm_guest::{Guest, GuestRoom, GuestSpec};
 
@@ -24,6 +25,24 @@ pub(crate) enum Slot {
     Running(Guest),
     // The guest starts, stops, or runs its epoch.
     Away,
+}
+
+impl Work for Slot {
+    ghost use Rattle.vm_pool.specs.Slots.{slot_run};
+    ghost use Rattle.vm_pool.specs.Turns.{MayRun};
+
+    ghost ready = { MayRun };
+
+    // The guest's epoch as a whole.
+    ghost pieces = { λ _. 1 };
+
+    ghost piece = { λ _ slot. slot_run slot };
+
+    fn run(&mut self) {
+        if let Slot::Running(guest) = self {
+            guest.run_epoch();
+        }
+    }
 }
 
 // The guest of a slot, if one runs there.

@@ -9,7 +9,7 @@ use std::sync::atomic::{AtomicU64, Ordering};
 use std::test::Fail;
 use std::thread::Threads;
 use std::{array, thread};
-use vm_pool::{Gate, GuestSpec, GuestView, Open, PageRead, Pool};
+use vm_pool::{Gate, GuestSpec, GuestView, Open, PageRead, Pool, Ran};
 use vm_trace::{Bytes, Trace, parse_step_within};
 
 // Asserts that both are the same. It stands here once, since what says how two values differ is proved wherever it stands.
@@ -320,7 +320,19 @@ fn nobody_met() -> Meeting {
 }
 
 impl Gate for Meeting {
-    fn enter(&self, number: u32) {
+    ghost use Rattle.std.specs.Prelude.{⊤};
+
+    type Outside = ();
+
+    type Inside = ();
+
+    ghost passed = { λ _ _. ⊤ };
+
+    ghost inside = { λ _ _ _. ⊤ };
+
+    fn arrive(&self) {}
+
+    fn enter(&self, _outside: (), number: u32) {
         if number >= 2 {
             return;
         }
@@ -336,7 +348,9 @@ impl Gate for Meeting {
         }
     }
 
-    fn leave(&self, _number: u32) {}
+    fn leave(&self, _ran: Ran<()>, _number: u32)
+        ensures { ⊤ }
+    {}
 }
 
 // How many steps a guest has done.
@@ -393,11 +407,25 @@ fn note(passages: &Passages, which: u64) {
 }
 
 impl Gate for Passages {
-    fn enter(&self, number: u32) {
+    ghost use Rattle.std.specs.Prelude.{⊤};
+
+    type Outside = ();
+
+    type Inside = ();
+
+    ghost passed = { λ _ _. ⊤ };
+
+    ghost inside = { λ _ _ _. ⊤ };
+
+    fn arrive(&self) {}
+
+    fn enter(&self, _outside: (), number: u32) {
         note(self, 2 * u64::from(number) + 1);
     }
 
-    fn leave(&self, number: u32) {
+    fn leave(&self, _ran: Ran<()>, number: u32)
+        ensures { ⊤ }
+    {
         note(self, 2 * u64::from(number) + 2);
     }
 }

@@ -8,7 +8,7 @@
 use std::alloc::Global;
 use std::thread::Threads;
 use std::{fs, io};
-use vm_sim::{Gate, Open, Watched, run};
+use vm_sim::{Gate, Open, Ran, Watched, run};
 
 const NAMES: [&str; 37] = [
     "admission",
@@ -56,9 +56,23 @@ const WORKERS: [u32; 4] = [1, 2, 5, 64];
 struct Silent;
 
 impl Gate for Silent {
-    fn enter(&self, _number: u32) {}
+    ghost use Rattle.std.specs.Prelude.{⊤};
 
-    fn leave(&self, _number: u32) {}
+    type Outside = ();
+
+    type Inside = ();
+
+    ghost passed = { λ _ _. ⊤ };
+
+    ghost inside = { λ _ _ _. ⊤ };
+
+    fn arrive(&self) {}
+
+    fn enter(&self, _outside: (), _number: u32) {}
+
+    fn leave(&self, _ran: Ran<()>, _number: u32)
+        ensures { ⊤ }
+    {}
 }
 
 /// What a run of the configuration writes, if it comes to its end.

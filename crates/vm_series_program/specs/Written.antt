@@ -9,7 +9,7 @@ use Rattle.vm_series.specs.Rows.{Rows, rows_of}
 use Rattle.vm_sim.specs.declared.run_error.RunError.{RunError}
 use Rattle.vm_sim.specs.declared.run_error.RunError.TheVariants.{Config, Read, Write, Memory, Workers}
 use Rattle.vm_sim.specs.Run.{MeansConfig, RunsConfig}
-use Rattle.vm_sim.specs.Streams.{AppendsFront}
+use Rattle.vm_streams.specs.Streams.{AppendsFront}
 
 -- the text is a drawing of the rows, or has them as comma-separated values
 abbrev pub IsTextOf : (is_drawn : Bool) → Rows → List ℕ → Type 0

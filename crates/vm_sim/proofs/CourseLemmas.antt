@@ -4,7 +4,7 @@ use Rattle.vm_host.proofs.KeptLemmas.{machine-bounded, names-bounded}
 use Rattle.vm_host.specs.World.{World, first_world}
 use Rattle.vm_config.specs.declared.config.Config.{Config}
 use Rattle.std.specs.Io.KnownBytes.{Appends}
-use Rattle.vm_sim.specs.Streams.{AppendsFront}
+use Rattle.vm_streams.specs.Streams.{AppendsFront}
 use Rattle.vm_reclaim.specs.Policy.{policy_of}
 use Rattle.vm_sim.specs.Calendar.{RunAgenda, course_asked}
 use Rattle.vm_sim.specs.declared.agenda.Agenda.{Agenda}

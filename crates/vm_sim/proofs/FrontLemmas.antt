@@ -2,8 +2,8 @@
 use Rattle.std.proofs.Common.{◌≡◌, ℕ, zero, suc, ◌+◌, ◌-◌, ◌<◌, List, [], ◌++◌, ap, ◌∙◌, sym, arith, append_assoc, add-zero, add-suc, subst, Option, Result, Ok, Err, OnErr}
 use Rattle.std.proofs.lemmas.List.{append-nil}
 use Rattle.std.specs.Io.KnownBytes.{Appends}
-use Rattle.vm_sim.specs.Streams.{AppendsFront}
-use Rattle.vm_sim.proofs.StreamLemmas.{Appends-then, Appends-then_front, AppendsFront-longer, AppendsFront-none}
+use Rattle.vm_streams.specs.Streams.{AppendsFront}
+use Rattle.vm_streams.proofs.StreamLemmas.{Appends-then, Appends-then_front, AppendsFront-longer, AppendsFront-none}
 use Rattle.vm_sim.specs.Course.{Course, world_in}
 use Rattle.vm_sim.specs.Report.{end_text, report_in, told_at, told_before}
 

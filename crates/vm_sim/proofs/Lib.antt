@@ -1,4 +1,3 @@
-pub mod StreamLemmas
 pub mod FrontLemmas
 pub mod PositionLemmas
 pub mod CalendarLemmas

@@ -3,7 +3,7 @@ use Rattle.std.specs.Prelude.{◌≡◌, ◌⊎◌, ◌<◌, ℕ, List, length, 
 use Rattle.std.specs.Io.KnownBytes.{Consumes, IsAtEnd, Keeps}
 use Rattle.vm_config.specs.declared.config.Config.{Config as Configuration}
 use Rattle.vm_config.specs.Reading.{config_of}
-use Rattle.vm_sim.specs.Streams.{AppendsFront}
+use Rattle.vm_streams.specs.Streams.{AppendsFront}
 use Rattle.vm_sim.specs.declared.run_error.RunError.{RunError}
 use Rattle.vm_sim.specs.declared.run_error.RunError.TheVariants.{Config, Read, Write, Memory, Workers}
 use Rattle.vm_sim.specs.Report.{report_of}

@@ -1,8 +1,8 @@
 -- Which error of a run stands for an error of a part of it.
 use Rattle.vm_config.specs.declared.error.ConfigError.{ConfigError}
 use Rattle.vm_config.specs.declared.error.ConfigError.TheVariants as config
-use Rattle.vm_sim.specs.declared.input.InputError.{InputError}
-use Rattle.vm_sim.specs.declared.input.InputError.TheVariants as input
+use Rattle.vm_streams.specs.declared.input.InputError.{InputError}
+use Rattle.vm_streams.specs.declared.input.InputError.TheVariants as input
 use Rattle.vm_sim.specs.declared.run_error.RunError.{RunError}
 use Rattle.vm_sim.specs.declared.run_error.RunError.TheVariants.{Config, Read, Memory}
 

@@ -16,24 +16,21 @@ mod input;
 mod law;
 mod lines;
 mod moves;
-mod output;
 mod read_line;
 mod report;
 mod run_error;
 mod simulation;
 mod stepping;
-mod stream;
 
 pub use input::read_text;
 pub use law::{law_migration, law_runs};
-pub use output::{WriteFailed, write_text};
 pub use report::{boundary_text, end_text, epoch_text};
 pub use run_error::RunError;
 pub use simulation::run;
 pub use stepping::SteppedRun;
-pub use stream::{Sink, Source, Watched};
 pub use vm_config::{
     Autostart, Config, ConfigError, ConfigV1, Domains, Fault, Key, MachineSpec, Part, Place,
     Schedule, Scheduled, TraceError, explain, migrate, read_config, read_config_v1,
 };
-pub use vm_host::{Boundary, Gate, Host, Lines, Open};
+pub use vm_host::{Boundary, Gate, Host, Lines, Open, Ran};
+pub use vm_streams::{Sink, Source, Watched, WriteFailed, write_text};

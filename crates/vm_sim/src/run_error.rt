@@ -3,12 +3,11 @@ ghost use Rattle.std.specs.Prelude.{◌≡◌};
 ghost use Rattle.vm_sim.specs.RunErrors.{error_of_config, error_of_input};
 ghost use Rattle.vm_sim.specs.declared.run_error.RunError.TheVariants.{Memory, Write};
 
-use crate::input::InputError;
-use crate::output::WriteFailed;
 use std::alloc::AllocError;
 use thiserror::Error;
 use vm_config::ConfigError;
 use vm_host::HostError;
+use vm_streams::{InputError, WriteFailed};
 
 /// Why a run stopped.
 #[derive(Clone, Copy, Debug, PartialEq, Eq, Error)]

@@ -10,21 +10,20 @@ ghost use Rattle.vm_sim.specs.Course.{after_boundary, lines_for, next_world, tol
 ghost use Rattle.vm_sim.specs.Headline.{AddsUp, ReadsLastWrites, RevokesFairly};
 ghost use Rattle.vm_sim.specs.Report.{boundary_told, epoch_text, report_in, report_of, told_in_epoch};
 ghost use Rattle.vm_sim.specs.Run.{CutShort, Fails, NewlyFailed, RunsConfig};
-ghost use Rattle.vm_sim.specs.Streams.{AppendsFront};
+ghost use Rattle.vm_streams.specs.Streams.{AppendsFront};
 
 use crate::agenda::{Agenda, lines_for};
 use crate::calendar::Calendar;
 use crate::crew::Crew;
 use crate::input::read_text;
 use crate::law::law_runs;
-use crate::output::write_text;
 use crate::report::{boundary_text, end_text, epoch_text};
 use crate::run_error::RunError;
-use crate::stream::{Sink, Source};
 use std::alloc::Global;
 use std::thread::Threads;
 use vm_config::{Config, read_config};
 use vm_host::{Boundary, Gate, Host, HostError, Lines};
+use vm_streams::{Sink, Source, write_text};
 
 const MAX_WORKERS: u32 = 64;
 

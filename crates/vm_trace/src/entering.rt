@@ -18,6 +18,7 @@ use std::alloc::AllocError;
 // The place behind the last byte, if it has 32 bits.
 fn next_place(store: &Vec<u8>) -> Result<u32, AllocError>
     ensures place { IfOk result (λ start. start ≡ length store.now.items) }
+    ensures full { OnErr result (2 ^ 32 ≤ length store.now.items) }
 {
     u32::try_from(store.len()).map_err(|_| AllocError)
 }

@@ -8,7 +8,7 @@ use std::sync::atomic::{AtomicU64, Ordering};
 use std::test::Fail;
 use std::thread;
 use std::thread::Threads;
-use vm_host::{Gate, Host, HostError, Lines, MachineSpec, Open, Outcome, State};
+use vm_host::{Gate, Host, HostError, Lines, MachineSpec, Open, Outcome, Ran, State};
 
 #[test]
 fn first_read(rt: HostRuntime) -> Result<(), Fail> {
@@ -82,7 +82,19 @@ fn nobody_met() -> Meeting {
 }
 
 impl Gate for Meeting {
-    fn enter(&self, number: u32) {
+    ghost use Rattle.std.specs.Prelude.{⊤};
+
+    type Outside = ();
+
+    type Inside = ();
+
+    ghost passed = { λ _ _. ⊤ };
+
+    ghost inside = { λ _ _ _. ⊤ };
+
+    fn arrive(&self) {}
+
+    fn enter(&self, _outside: (), number: u32) {
         if number >= 2 {
             return;
         }
@@ -98,7 +110,9 @@ impl Gate for Meeting {
         }
     }
 
-    fn leave(&self, _number: u32) {}
+    fn leave(&self, _ran: Ran<()>, _number: u32)
+        ensures { ⊤ }
+    {}
 }
 
 // One thread alone fails here, in whatever order it runs the guests.
@@ -132,9 +146,23 @@ fn assert_met(rt: &impl Abort, gate: &Meeting) {
 struct Silent;
 
 impl Gate for Silent {
-    fn enter(&self, _number: u32) {}
+    ghost use Rattle.std.specs.Prelude.{⊤};
 
-    fn leave(&self, _number: u32) {}
+    type Outside = ();
+
+    type Inside = ();
+
+    ghost passed = { λ _ _. ⊤ };
+
+    ghost inside = { λ _ _ _. ⊤ };
+
+    fn arrive(&self) {}
+
+    fn enter(&self, _outside: (), _number: u32) {}
+
+    fn leave(&self, _ran: Ran<()>, _number: u32)
+        ensures { ⊤ }
+    {}
 }
 
 #[test]

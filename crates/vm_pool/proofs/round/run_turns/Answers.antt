@@ -4,7 +4,9 @@ use Rattle.std.proofs.lemmas.List.{length-map}
 use Rattle.vm_guest.specs.State.{GuestState, state_epoch}
 use Rattle.vm_pool.specs.Slots.{is_away, unprepared}
 use Rattle.vm_pool.specs.Turns.{back_in, running_in, IsReady}
-use Rattle.vm_pool.proofs.SlotLemmas.{settled-same, served-same, length-same}
+use Rattle.vm_board.specs.Gates.{PassedOnce}
+use Rattle.vm_pool.proofs.RunningLemmas.{length-running}
+use Rattle.vm_pool.proofs.SlotLemmas.{settled-same, served-same, length-same, running-same}
 use Rattle.vm_pool.proofs.TurnLemmas.{all-prepared, away-left, back-run, back-same, finished-turns, length-running_in, ready, run-same}
 use Rattle.vm_pool.proofs.round.run_turns.Goals as goal
 
@@ -60,3 +62,10 @@ returns-in-Err-clause-same g c =
     let settled = settled-same old slots c.prepare_all.ensures.same c.requires.settled in
     let turns = c.into_vec-in-Err.ensures ∙ c.in-Err.ensures.err ∙ c.from.ensures ∙ c.send_out-turns.ensures.turns in
     ap (map unprepared) (c.bring_back-in-Err.ensures ∙ (λ i. back_in (c.send_out-turns.ensures.slots i) (turns i)) ∙ back-same slots settled) ∙ c.prepare_all.ensures.same
+
+pub returns-in-Ok-clause-passed : goal.returns-in-Ok-clause-passed
+returns-in-Ok-clause-passed g c =
+    let slots = c.prepare_all.new.slots in
+    let jobs = ap (λ (turns : List GuestState). length turns) (c.from.ensures ∙ c.send_out-turns.ensures.turns) in
+    let count = jobs ∙ length-running slots ∙ running-same c.args.slots.now slots c.prepare_all.ensures.same in
+    subst (PassedOnce g.G.Gate.passed c.args.workers) count c.in-Ok.ensures.passed

@@ -1,4 +1,4 @@
-use Rattle.std.proofs.Common.{ℕ, ◌-◌, ◌<◌, ◌≤◌}
+use Rattle.std.proofs.Common.{◌-◌, ◌<◌, ◌≤◌}
 use Rattle.vm_pool.specs.Threads.{start_of}
 use Rattle.vm_pool.proofs.round.threads_for.Given as goal
 

@@ -1,6 +1,6 @@
 use Rattle.std.proofs.Common.{◌∙◌, rules, add-one}
 use Rattle.vm_sim.proofs.CourseLemmas.{next_in_course, told_in_course}
-use Rattle.vm_sim.proofs.StreamLemmas.{AppendsFront-none, Appends-then}
+use Rattle.vm_streams.proofs.StreamLemmas.{AppendsFront-none, Appends-then}
 use Rattle.vm_sim.proofs.FrontLemmas.{cut_in_epoch, cut_at_end}
 use Rattle.vm_sim.specs.Course.{course_from}
 use Rattle.vm_sim.proofs.simulation.tell.Goals as goal
