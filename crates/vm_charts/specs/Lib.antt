@@ -1,5 +1,6 @@
 pub mod Samples
 pub mod Scale
+pub mod Round
 pub mod Drawing
 pub mod Curves
 pub mod Shapes

@@ -15,7 +15,7 @@ mod series;
 mod texts;
 
 pub use drawing::{Chart, Curve, Drawing};
-pub use law::law_stacked;
+pub use law::{law_round, law_stacked};
 pub use picture::draw;
 pub use scale::Axis;
 pub use series::svg_text;

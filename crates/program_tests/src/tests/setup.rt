@@ -4,7 +4,7 @@ use std::io;
 use std::io::{Error, ErrorKind};
 use std::process::Abort;
 use std::thread::Threads;
-use vm_sim::{Gate, Host, Open, RunError, Sink, Source, run};
+use vm_sim::{Gate, Host, Open, Ran, RunError, Sink, Source, run};
 
 pub(super) const FIRST_READ: &str =
     "{\"version\":1,\"frames\":100,\"epochs\":1,\"guests\":[{\"name\":\"web\",\"size\":4,\"min\":4,\
@@ -94,9 +94,23 @@ machine 100 held 8 free 92 overhead 0\n";
 pub(super) struct Silent;
 
 impl Gate for Silent {
-    fn enter(&self, _number: u32) {}
+    ghost use Rattle.std.specs.Prelude.{⊤};
 
-    fn leave(&self, _number: u32) {}
+    type Outside = ();
+
+    type Inside = ();
+
+    ghost passed = { λ _ _. ⊤ };
+
+    ghost inside = { λ _ _ _. ⊤ };
+
+    fn arrive(&self) {}
+
+    fn enter(&self, _outside: (), _number: u32) {}
+
+    fn leave(&self, _ran: Ran<()>, _number: u32)
+        ensures { ⊤ }
+    {}
 }
 
 // A reader that gives these bytes, then so many spaces, and then fails or ends.

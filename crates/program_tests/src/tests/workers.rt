@@ -8,7 +8,7 @@ use std::process::Abort;
 use std::sync::atomic::{AtomicU64, Ordering};
 use std::thread;
 use std::thread::Threads;
-use vm_sim::{Gate, Open, RunError, run};
+use vm_sim::{Gate, Open, Ran, RunError, run};
 
 // Asserts what so many workers write for a configuration.
 fn assert_report(
@@ -69,7 +69,19 @@ fn nobody_met() -> Meeting {
 }
 
 impl Gate for Meeting {
-    fn enter(&self, number: u32) {
+    ghost use Rattle.std.specs.Prelude.{⊤};
+
+    type Outside = ();
+
+    type Inside = ();
+
+    ghost passed = { λ _ _. ⊤ };
+
+    ghost inside = { λ _ _ _. ⊤ };
+
+    fn arrive(&self) {}
+
+    fn enter(&self, _outside: (), number: u32) {
         if number >= 2 {
             return;
         }
@@ -85,7 +97,9 @@ impl Gate for Meeting {
         }
     }
 
-    fn leave(&self, _number: u32) {}
+    fn leave(&self, _ran: Ran<()>, _number: u32)
+        ensures { ⊤ }
+    {}
 }
 
 // Asserts that each guest met the other.
