@@ -396,8 +396,7 @@ fn numbers_of_a_thread_rise(rt: HostRuntime) -> Result<(), Fail> {
     Ok(())
 }
 
-// A gate that remembers nothing itself counts as a clause says: each number enters once and leaves once. How many threads there are no
-// clause says.
+// Each number enters once and leaves once, as a clause says, by a gate that counts.
 #[test]
 fn each_number_passes_the_gate_once(rt: HostRuntime) -> Result<(), Fail> {
     for workers in [1, 3, 64] {
