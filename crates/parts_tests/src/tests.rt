@@ -2,6 +2,7 @@ mod admission;
 mod commands;
 mod frames;
 mod json;
+mod lists;
 mod page_map;
 mod pages;
 mod patches;

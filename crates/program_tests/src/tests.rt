@@ -7,6 +7,8 @@ mod marks;
 mod schedule;
 mod series;
 mod setup;
+mod stepping;
+mod sweeps;
 mod system;
 mod vmmem;
 mod vmseries;

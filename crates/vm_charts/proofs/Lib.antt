@@ -1,4 +1,1 @@
-pub mod PictureLemmas
-pub mod ScaleLemmas
-pub mod RoundLemmas
-pub mod StackedLemmas
+pub mod SeriesLemmas

@@ -1,10 +1,2 @@
 pub mod Samples
-pub mod Scale
-pub mod Round
-pub mod Drawing
-pub mod Curves
-pub mod Shapes
-pub mod Picture
 pub mod Series
-pub mod Layout
-pub mod Stacked

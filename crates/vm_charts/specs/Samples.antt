@@ -1,5 +1,5 @@
 -- What is seen of a host epoch by epoch, as numbers: the samples of a curve.
-use Rattle.std.specs.Prelude.{ℕ, ◌+◌, List, [], ◌∷◌, map, max, Option, Some, None, unwrap_or}
+use Rattle.std.specs.Prelude.{ℕ, ◌+◌, List, [], ◌∷◌, map, Option, Some, None}
 use Rattle.std.specs.Option.{option_map}
 use Rattle.vm_guest.specs.declared.view.GuestView.{GuestView}
 use Rattle.vm_plan.specs.State.{rank}
@@ -34,8 +34,3 @@ sample (Total pages) row = Some (total pages row.views)
 -- one for each epoch
 abbrev pub samples : Measure → List Row → List (Option ℕ)
 samples measure rows = map (sample measure) rows
-
--- the greatest of them, or 0
-abbrev pub greatest : List (Option ℕ) → ℕ
-greatest [] = 0
-greatest (value ∷ values) = max (unwrap_or value 0) (greatest values)

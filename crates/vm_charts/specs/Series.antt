@@ -5,10 +5,10 @@ use Rattle.std.specs.Fmt.{decimal}
 use Rattle.std.specs.List.{flat_map, list_any, range_with_len}
 use Rattle.vm_series.specs.Csv.{name_at}
 use Rattle.vm_series.specs.Rows.{Row, Rows}
-use Rattle.vm_charts.specs.declared.scale.Axis.{Axis}
+use Rattle.vm_drawing.specs.declared.scale.Axis.{Axis}
 use Rattle.vm_charts.specs.declared.samples.Measure.TheVariants.{State, Free, Target, Total}
 use Rattle.vm_charts.specs.declared.samples.Pages.TheVariants.{SwappedOut, Ballooned}
-use Rattle.vm_charts.specs.Drawing.{Chart, Curve, Drawing, level_curve}
+use Rattle.vm_drawing.specs.Drawing.{Chart, Curve, Drawing, level_curve}
 use Rattle.vm_charts.specs.Samples.{samples}
 
 abbrev pub state_chart : List Row → Chart

@@ -1,8 +1,8 @@
 // What is seen of a host epoch by epoch, as numbers.
-ghost use Rattle.std.specs.Prelude.{◌≡◌, is_some, max, IfOk};
+ghost use Rattle.std.specs.Prelude.{◌≡◌, is_some, IfOk};
 ghost use Rattle.std.specs.List.{list_any};
 ghost use Rattle.vm_plan.specs.State.{rank};
-ghost use Rattle.vm_charts.specs.Samples.{greatest, pages_in, pages_of, sample, samples, total};
+ghost use Rattle.vm_charts.specs.Samples.{pages_in, pages_of, sample, samples, total};
 
 use std::alloc::{AllocError, Global};
 use vm_host::{GuestView, State};
@@ -94,17 +94,6 @@ pub(crate) fn samples(
         values.push(sample(row, measure))?;
     }
     Ok(values)
-}
-
-// The greatest value, or 0.
-pub(crate) fn greatest(values: &[Option<u64>]) -> u64
-    ensures { result ≡ greatest values.now }
-{
-    let mut most: u64 = 0;
-    for value in values {
-        most = most.max(value.unwrap_or(0));
-    }
-    most
 }
 
 // Whether there is any value.

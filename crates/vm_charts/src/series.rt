@@ -2,16 +2,14 @@
 ghost use Rattle.std.specs.Prelude.{◌≡◌, ◌++◌, ◌∷◌, [], IfOk, OnOk, codes, length, map, string_bytes};
 ghost use Rattle.std.specs.List.{flat_map, range_with_len};
 ghost use Rattle.vm_series.specs.Csv.{name_at};
-ghost use Rattle.vm_charts.specs.Drawing.{level_curve};
-ghost use Rattle.vm_charts.specs.Picture.{svg_of};
+ghost use Rattle.vm_drawing.specs.Drawing.{level_curve};
+ghost use Rattle.vm_drawing.specs.Picture.{svg_of};
 ghost use Rattle.vm_charts.specs.Samples.{samples};
 ghost use Rattle.vm_charts.specs.Series.{drawing_of, epoch_axis, free_chart, note_of, page_chart, state_chart, target_chart, target_curve};
 
-use crate::drawing::{Chart, Curve, Drawing};
-use crate::picture::draw;
 use crate::samples::{Measure, Pages, has_values, samples};
-use crate::scale::Axis;
 use std::alloc::{AllocError, Global};
+use vm_drawing::{Axis, Chart, Curve, Drawing, draw};
 use vm_series::{EpochRow, Series};
 
 fn name_at(names: &[String], position: usize) -> &str

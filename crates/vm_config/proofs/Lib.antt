@@ -4,3 +4,4 @@ pub mod TraceLemmas
 pub mod GuestLemmas
 pub mod PlaceLemmas
 pub mod FirstLemmas
+mod SettingLemmas

@@ -14,3 +14,4 @@ pub mod FirstFault
 pub mod Limits
 pub mod Seen
 pub mod Named
+pub mod Settings

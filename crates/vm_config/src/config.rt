@@ -1,5 +1,6 @@
 use crate::autostart::Autostart;
 use crate::schedule::Schedule;
+use std::alloc::AllocError;
 use std::marker::Model;
 use vm_domains::{Domains, MachineSpec};
 
@@ -16,6 +17,23 @@ pub struct Config {
     pub autostart: Autostart,
     /// The command lines. One whose epoch the run does not reach is never obeyed.
     pub commands: Schedule,
+}
+
+/// `clone` gives the same configuration in memory of its own, with no more room than it takes. An `Err` says that memory was refused.
+impl Clone for Config {
+    ghost use Rattle.std.specs.Prelude.{◌≡◌};
+
+    ghost is_clone = { λ config copy. copy ≡ config };
+
+    fn clone(&self) -> Result<Config, AllocError> {
+        Ok(Config {
+            machine: self.machine,
+            epochs: self.epochs,
+            domains: self.domains.clone()?,
+            autostart: self.autostart.clone()?,
+            commands: self.commands.clone()?,
+        })
+    }
 }
 
 /// A configuration of version 1, in which tax and percents are whole percents. [`migrate`](crate::migrate) makes a [`Config`] of

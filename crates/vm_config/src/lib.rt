@@ -8,6 +8,8 @@
 //! `specs/Reading.antt` has the configuration that a text means, key by key; `specs/Versions.antt` what differs between the
 //! versions, `specs/Keys.antt` what may stand at one key, and `specs/Migration.antt` the way from version 1 to version 2.
 //! `specs/Located.antt` has the same reading with the place of each fault, and `specs/FirstFault.antt` what a place says.
+//!
+//! A [`Config`] can be cloned, and a [`Setting`] of its machine given another value: `specs/Settings.antt` has their ranges.
 #![tactic(auto)]
 
 mod autostart;
@@ -24,6 +26,7 @@ mod names;
 mod place;
 mod reading;
 mod schedule;
+mod settings;
 mod trace;
 mod version;
 
@@ -35,5 +38,6 @@ pub use migration::migrate;
 pub use place::{Key, Part, Place};
 pub use reading::{explain, read_config, read_config_v1};
 pub use schedule::{Schedule, Scheduled};
+pub use settings::{OutOfRange, Setting, law_settings};
 pub use vm_domains::{Domains, MachineSpec};
 pub use vm_trace::TraceError;

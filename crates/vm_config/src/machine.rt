@@ -13,7 +13,7 @@ use vm_json::Value;
 
 const MAX_OVERHEAD: u64 = 1024;
 
-const MAX_PAGE_RATE: u64 = 256;
+pub(crate) const MAX_PAGE_RATE: u64 = 256;
 
 const DEFAULT_PAGE_RATE: u64 = 16;
 

@@ -1,6 +1,7 @@
 mod domains;
 mod limits;
 mod places;
+mod settings;
 
 use std::alloc::Global;
 use std::fmt::{Debug, Display};

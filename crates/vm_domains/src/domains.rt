@@ -2,7 +2,7 @@ ghost use Rattle.std.specs.Prelude.{◌≡◌, ◌<◌, [], ◌∷◌, ◌++◌,
 ghost use Rattle.vm_domains.specs.Domains.{configs_of, domains_of, names_of, position_of, ArePaired};
 
 use crate::names::Names;
-use std::alloc::Global;
+use std::alloc::{AllocError, Global};
 use std::marker::Model;
 use vm_guest::GuestSpec;
 
@@ -23,6 +23,17 @@ impl Model for Domains {
     ghost view = { λ d. domains_of d.names d.specs.items };
 
     ghost invariant = { λ d. ArePaired d.names d.specs.items };
+}
+
+/// `clone` gives the same domains in memory of their own. An `Err` says that memory was refused.
+impl Clone for Domains {
+    ghost is_clone = { λ domains copy. copy ≡ domains };
+
+    fn clone(&self) -> Result<Domains, AllocError> {
+        let names = self.names.clone()?;
+        let specs = self.specs.clone()?;
+        Ok(Domains { names, specs })
+    }
 }
 
 impl Domains {

@@ -5,7 +5,7 @@ ghost use Rattle.vm_guest.specs.Boundary.{granted, lowered, ordered, released, r
 ghost use Rattle.vm_guest.specs.Frames.{GivesOut, TakesBack, TakesBackSome, with_frame};
 ghost use Rattle.vm_guest.specs.Good.{HasNothingPosted};
 ghost use Rattle.vm_guest.specs.Memory.{bytes_of};
-ghost use Rattle.vm_guest.specs.Record.{reserve};
+ghost use Rattle.vm_guest.specs.Record.{reserve, steps_left};
 ghost use Rattle.vm_guest.specs.Room.{room_for};
 ghost use Rattle.vm_guest.specs.Start.{started};
 ghost use Rattle.vm_guest.specs.State.{state_epoch, with_guest, IsBacked};
@@ -315,6 +315,13 @@ impl Guest {
         ensures { result ≡ self.now.guest.progress.stalled_on }
     {
         self.parts.progress.stalled_on
+    }
+
+    /// How many steps of its trace the guest has not executed.
+    pub fn steps_left(&self) -> u64
+        ensures { result ≡ steps_left self.now.guest }
+    {
+        self.parts.spec.trace.len() as u64 - u64::from(self.parts.progress.position)
     }
 
     /// What the driver said of the guest's memory in the statistics buffer that was served last (`virsh dommemstat`).

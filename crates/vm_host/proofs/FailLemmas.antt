@@ -1,6 +1,8 @@
 -- A host that fails.
-use Rattle.std.proofs.Common.{◌≡◌, ◌∙◌, ℕ, List, ap, sym}
+use Rattle.std.proofs.Common.{◌≡◌, ◌∙◌, ℕ, List, ap, sym, subst}
+use Rattle.vm_domains.specs.Domains.{ArePaired}
 use Rattle.vm_domains.specs.Machine.{MachineConfig}
+use Rattle.vm_guest.specs.Config.{GuestConfig}
 use Rattle.vm_host.specs.declared.phase.Phase.TheVariants.{Failed}
 use Rattle.vm_host.specs.Boundary.{FailsAfterSome, opened}
 use Rattle.vm_host.specs.Commands.{IsAfterSome}
@@ -29,3 +31,9 @@ fails-whole w mid new sound kept failed all =
     ∙ (kept.setup.frames
     ∙ (sound.frames_are
     ∙ sym (ap (λ (v : World). v.machine.frames) failed ∙ ap (λ (m : MachineConfig). m.frames) kept.machine))))
+
+-- its domains still have their configurations
+pub paired-kept : (w new : World) → FailsFrom w new → ArePaired w.names w.pool.configs → ArePaired new.names new.pool.configs
+paired-kept w new from paired =
+    subst (λ (names : List (List ℕ)). ArePaired names new.pool.configs) (sym from.names)
+    (subst (λ (configs : List GuestConfig). ArePaired w.names configs) (sym from.configs) paired)

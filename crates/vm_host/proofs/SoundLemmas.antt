@@ -4,6 +4,7 @@ use Rattle.std.proofs.lemmas.Option.{slice_get_within}
 use Rattle.vm_admission.specs.Accounts.{Accounts, with_guest, with_minimum, without_guest}
 use Rattle.vm_commands.specs.declared.command.Command.{Command}
 use Rattle.vm_commands.specs.declared.command.Command.TheVariants.{Start, Destroy, SetMemory, SetMinimum, SetShares, ShowStatistics}
+use Rattle.vm_domains.specs.Domains.{ArePaired}
 use Rattle.vm_guest.specs.Boundary.{with_cap, with_shares}
 use Rattle.vm_guest.specs.Config.{GuestConfig}
 use Rattle.vm_guest.specs.Good.{HasNothingPosted, IsGood}
@@ -47,11 +48,8 @@ use Rattle.vm_tax.specs.Ratio.{Tax}
 pub whole-of : (w : World) → IsSoundWorld w → IsWhole w.pool
 whole-of w sound = record { sound = sound.pool; adds_up = sound.conserves ∙ sym sound.frames_are }
 
-pub few-domains : (w : World) → IsSoundWorld w → length w.names ≤ 256
-few-domains w sound =
-    let named = sound.named in
-    let few = sound.pool.few in
-    omega (arith, named, few)
+pub paired-domains : (w : World) → IsSoundWorld w → ArePaired w.names w.pool.configs
+paired-domains w sound = record { paired = sound.named; few = sound.pool.few; limits = sound.pool.limits }
 
 -- a sound host with another pool, which is set up as before
 pub world-of : (w : World) (pool : PoolView) (state : State) (phase : Phase) → IsSoundWorld w → HasSameSetup w.pool pool → IsWhole pool → IsCovered (accounts_of w.machine pool.guests)

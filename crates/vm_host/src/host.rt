@@ -1,8 +1,9 @@
 ghost use Rattle.std.specs.Prelude.{◌≡◌, ◌≢◌, ◌<◌, ◌≤◌, ◌↔◌, ◌⊎◌, IfErr, IfOk, IsTrue, Err, OnErr, OnOk, length, slice_get};
 ghost use Rattle.std.specs.Option.{option_map};
 ghost use Rattle.vm_board.specs.Gates.{PassedOnce};
-ghost use Rattle.vm_domains.specs.Domains.{place_of};
+ghost use Rattle.vm_domains.specs.Domains.{domains_of, place_of};
 ghost use Rattle.vm_guest.specs.Good.{IsGood};
+ghost use Rattle.vm_guest.specs.Record.{steps_left};
 ghost use Rattle.vm_guest.specs.View.{view_of};
 ghost use Rattle.vm_pool.specs.Pool.{running_count, EachGuest, Conserves as AddsUp};
 ghost use Rattle.vm_pool.specs.Readers.{stalled_of, Peeks};
@@ -163,6 +164,30 @@ impl Host {
         Ok(())
     }
 
+    /// The same on the caller's thread alone, which needs no runtime: running guests run their epochs in the order of the domains, and
+    /// pass the gate in that order.
+    ///
+    /// It asks for what [`Host::epoch`] asks for, and fails as that does.
+    pub fn epoch_alone<G: Gate>(&mut self, gate: &G) -> Result<(), HostError>
+        requires ready { self.old.phase ≢ Waiting }
+        ensures done { OnOk result (self.new ≡ after_epoch self.old) }
+        ensures failed { (result ≡ Err HasFailed) ↔ (self.old.phase ≡ Failed) }
+        ensures unchanged { OnErr result (self.new ≡ self.old) }
+        ensures memory { result ≡ Err NoMemory → 0 < running_count self.old.pool.guests }
+        ensures conserves { Conserves self.new }
+        ensures good { OnOk result (EachGuest IsGood self.new.pool) }
+        ensures passed { OnOk result (PassedOnce G.passed 1 (running_count self.old.pool.guests)) }
+    {
+        if self.parts.phase == Phase::Failed {
+            return Err(HostError::Failed);
+        }
+        if self.parts.pool.epoch_alone(gate).is_err() {
+            return Err(HostError::Memory);
+        }
+        self.parts.phase = Phase::Waiting;
+        Ok(())
+    }
+
     /// Whether an epoch may be asked for: there was a boundary since the last one, or the host has failed.
     pub fn ready(&self) -> bool
         ensures { IsTrue result ↔ (self.now.phase ≢ Waiting) }
@@ -190,6 +215,13 @@ impl Host {
         ensures { result ≡ overhead_frames self.now }
     {
         self.parts.pool.overhead_frames()
+    }
+
+    /// How the machine is set up.
+    pub fn machine(&self) -> MachineSpec
+        ensures { result ≡ self.now.machine }
+    {
+        self.parts.spec
     }
 
     /// How many frames the machine has.
@@ -243,6 +275,13 @@ impl Host {
         self.parts.pool.stalled(position)
     }
 
+    /// How many steps of its trace the guest at a position has not executed, if one runs there.
+    pub fn steps_left(&self, position: usize) -> Option<u64>
+        ensures { result ≡ option_map steps_left (guest_at self.now position) }
+    {
+        self.parts.pool.steps_left(position)
+    }
+
     /// Copies a page of 4096 bytes of guest memory, wherever it is. It answers false, and copies nothing, exactly where no
     /// running guest has the name, the page is not below its size, or the host has failed.
     pub fn peek(&self, name: &str, page: u32, bytes: &mut [u8; PAGE_BYTES]) -> bool
@@ -255,18 +294,20 @@ impl Host {
         }
     }
 
-    /// Ends a host, a failed one too. Its guests are stopped, and all frames go back to the machine, which can be closed only
-    /// then.
-    pub fn close(self) {
+    /// Ends a host, a failed one too. Its guests are stopped, all frames go back to the machine, which can be closed only then, and
+    /// the domains come back in order, as they were set up. It takes no memory.
+    pub fn close(self) -> Domains
+        ensures { result ≡ domains_of self.names self.pool.configs }
+    {
         let Host { parts, books: _ } = self;
         let Parts {
             spec: _,
-            names: _,
+            names,
             pool,
             state: _,
             phase: _,
         } = parts;
-        pool.close();
+        Domains::from_parts(names, pool.close())
     }
 }
 

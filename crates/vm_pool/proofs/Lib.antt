@@ -1,6 +1,7 @@
 pub mod FirstLemmas
 mod RunningLemmas
 pub mod TurnLemmas
+mod OrderLemmas
 pub mod SlotLemmas
 pub mod MoveLemmas
 pub mod PoolLemmas

@@ -149,6 +149,8 @@ pool-moved p i was slot middle after aside wanted good m same_room =
       held = omega (arith, sum, was_held, held, moves, moves_aside);
       aside = omega (arith, aside_is, runs, counted);
       room = omega (arith, room, most, total, total_aside, same_room);
+      no_specs = good.no_specs;
+      home = let home = good.home in omega (arith, home, long);
     }
 
 -- what it shows
@@ -253,6 +255,8 @@ pool-kept p slots good is same =
       held = omega (arith, held, same_held);
       aside = good.aside ∙ ap (λ r. p.overhead * r) (sym (ap (λ xs. running_count (map guest_in xs)) is ∙ same.runs));
       room = let room = good.room in let most = ap (λ n. p.overhead * n) long in omega (arith, room, most);
+      no_specs = good.no_specs;
+      home = let home = good.home in omega (arith, home, long);
     }
 
 -- ---- no guest runs
@@ -278,8 +282,9 @@ configs_stopped [] = refl
 configs_stopped (config ∷ configs) = ap (λ rest. config ∷ rest) (configs_stopped configs)
 
 pub first-is_pool : (p : Inside) (frames : ℕ) (configs : List GuestConfig) → frames < 2 ^ 32 → length configs ≤ 256 → p.slots.items ≡ map Stopped configs
-    → p.aside.items ≡ [] → most_aside p.overhead (length configs) frames ≤ vec_capacity p.aside → p.machine ≡ record { total = frames; out = sets.empty } → IsPool p
-first-is_pool p frames configs fits few slots aside room machine =
+    → p.aside.items ≡ [] → most_aside p.overhead (length configs) frames ≤ vec_capacity p.aside → p.machine ≡ record { total = frames; out = sets.empty }
+    → p.specs.items ≡ [] → length configs ≤ vec_capacity p.specs → IsPool p
+first-is_pool p frames configs fits few slots aside room machine no_specs home =
     let long = ap length slots ∙ length-map configs Stopped in
     let out = ap (λ (m : MachineView). sets.len m.out) machine ∙ len-empty nat_cmp in
     let total = ap (λ (m : MachineView). m.total) machine in
@@ -296,6 +301,8 @@ first-is_pool p frames configs fits few slots aside room machine =
       held = omega (arith, out, held, none);
       aside = none ∙ sym (ap (λ r. p.overhead * r) runs ∙ zero_times);
       room = let most = ap (λ n. p.overhead * n) long in omega (arith, room, most, total);
+      no_specs = no_specs;
+      home = omega (arith, long, home);
     }
 
 pub first-view : (p : Inside) (frames : ℕ) (configs : List GuestConfig) → p.slots.items ≡ map Stopped configs → p.machine ≡ record { total = frames; out = sets.empty }

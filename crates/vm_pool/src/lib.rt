@@ -11,8 +11,8 @@
 //!
 //! Between any two calls a frame is out of the machine exactly where it is held once, by one guest or among those set aside, and a
 //! guest has its target. Frames' numbers are in no clause: this is the invariant of the type [`Pool`] (`specs/PoolFields.antt`,
-//! `IsPool`), which each call is proved to keep. [`Pool::close`] has no clause, since no pool is left to speak of: it ends in
-//! `vm_frames::Machine::close`, which may be called only with every frame back, and this is proved of it.
+//! `IsPool`), which each call is proved to keep. The clause of [`Pool::close`] is of what comes back, and not of frames, since no pool
+//! is left to speak of: it ends in `vm_frames::Machine::close`, which may be called only with every frame back, and this is proved of it.
 //!
 //! That threads run at once is tested and not proved.
 #![tactic(auto)]

@@ -3,7 +3,7 @@ ghost use Rattle.std.specs.Option.{option_map};
 ghost use Rattle.vm_board.specs.Gates.{PassedOnce};
 ghost use Rattle.vm_guest.specs.Boundary.{ordered, revoked, serviced, with_cap, with_shares, without_spares};
 ghost use Rattle.vm_guest.specs.Good.{HasNothingPosted, IsGood};
-ghost use Rattle.vm_guest.specs.Record.{reserve};
+ghost use Rattle.vm_guest.specs.Record.{reserve, steps_left};
 ghost use Rattle.vm_guest.specs.View.{view_of};
 ghost use Rattle.vm_pool.specs.CanMove.{CanGrant, CanRevoke};
 ghost use Rattle.vm_pool.specs.Changes.{after_epoch, all_changed, changed, freed, frames_to_start, granted_at, lacking, released_at, spares_of, started_at, stopped_at, surplus_of, waits_above, with_min_at, with_orders, with_released, with_spares_back, is_above_in, AreReleasable};
@@ -12,7 +12,7 @@ ghost use Rattle.vm_pool.specs.Readers.{peeked, stalled_of, Peeks};
 ghost use Rattle.vm_pool.specs.declared.slot.Slot.TheVariants.{Stopped};
 
 use crate::aside::{put_back, set_aside};
-use crate::round::run_epochs;
+use crate::round::{run_epochs, run_epochs_alone};
 use crate::slot::{
     Slot, close_all, grant, guest_of, order, release, revoke, room_to_start, serve, set_cap,
     set_min, set_shares, spares_back, spec_of, start, stop,
@@ -34,6 +34,8 @@ pub struct Pool {
     // The frames set aside for running guests, with room for all that may be.
     aside: Vec<Frame>,
     slots: Vec<Slot>,
+    // None, with room for those of all guests, which come back where the pool ends.
+    specs: Vec<GuestSpec>,
 }
 
 impl Model for Pool {
@@ -74,12 +76,14 @@ impl Pool {
             aside.destroy_empty();
             return Err(specs);
         };
-        let slots = stopped(slots, specs);
+        let mut left = specs;
+        let slots = stopped(slots, &mut left);
         Ok(Pool {
             machine,
             overhead,
             aside,
             slots,
+            specs: left,
         })
     }
 
@@ -166,6 +170,13 @@ impl Pool {
         ensures { result ≡ stalled_of (guest_at self.now position) }
     {
         self.guest(position)?.stalled()
+    }
+
+    /// How many steps of its trace the guest at a position has not executed, if one runs there.
+    pub fn steps_left(&self, position: usize) -> Option<u64>
+        ensures { result ≡ option_map steps_left (guest_at self.now position) }
+    {
+        Some(self.guest(position)?.steps_left())
     }
 
     /// What the driver of the guest at a position said last of its memory, if one runs there (`virsh dommemstat`).
@@ -393,19 +404,40 @@ impl Pool {
         Ok(())
     }
 
-    /// Ends a pool. Its guests are stopped, and all frames go back to the machine, which can be closed only then.
-    pub fn close(self) {
+    /// Each running guest runs its epoch on the caller's thread, in order, as [`Pool::epoch`] has one worker do it. It needs no
+    /// runtime.
+    ///
+    /// Each guest has to be served. Memory is asked for only where a guest runs; where it is refused, no guest runs its epoch, and
+    /// nothing changes.
+    pub fn epoch_alone<G: Gate>(&mut self, gate: &G) -> Result<(), AllocError>
+        requires { EachGuest HasNothingPosted self.old }
+        ensures done { OnOk result (self.new ≡ after_epoch self.old) }
+        ensures unchanged { OnErr result (self.new ≡ self.old) }
+        ensures memory { OnErr result (0 < running_count self.old.guests) }
+        ensures passed { OnOk result (PassedOnce G.passed 1 (running_count self.old.guests)) }
+    {
+        run_epochs_alone(gate, &mut self.slots)?;
+        Ok(())
+    }
+
+    /// Ends a pool. Its guests are stopped, all frames go back to the machine, which can be closed only then, and the specifications
+    /// come back in order. It takes no memory.
+    pub fn close(self) -> Vec<GuestSpec>
+        ensures { result.items ≡ self.configs }
+    {
         let Pool {
             mut machine,
             overhead: _,
             mut aside,
             slots,
+            mut specs,
         } = self;
-        close_all(slots, &aside, &mut machine);
+        close_all(slots, &aside, &mut machine, &mut specs);
         let count = aside.len() as u32;
         put_back(&mut aside, count, &mut machine);
         aside.destroy_empty();
         machine.close();
+        specs
     }
 
     // The guest at a position, if one runs there.
@@ -425,15 +457,18 @@ fn most_aside(overhead: u32, guests: usize, frames: u32) -> usize
     (overhead as usize * guests).min(frames as usize)
 }
 
-// A slot with each specification, put into the room that is there for them.
-fn stopped(slots: Vec<Slot>, specs: Vec<GuestSpec>) -> Vec<Slot>
+// A slot with each specification, in order, put into the room that is there for them.
+fn stopped(slots: Vec<Slot>, specs: &mut Vec<GuestSpec>) -> Vec<Slot>
     requires none { slots.items ≡ [] }
-    requires room { vec_len specs ≤ vec_capacity slots }
-    ensures { result.items ≡ map Stopped specs.items }
+    requires room { vec_len specs.old ≤ vec_capacity slots }
+    ensures slots { result.items ≡ map Stopped specs.old.items }
+    ensures none { specs.new.items ≡ [] }
+    ensures room { vec_capacity specs.new ≡ vec_capacity specs.old }
 {
     let mut slots = slots;
-    for spec in specs {
+    while let Some(spec) = specs.pop() {
         slots.push_reserved(Slot::Stopped(spec));
     }
+    slots.reverse();
     slots
 }

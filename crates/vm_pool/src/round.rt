@@ -66,6 +66,21 @@ pub(crate) fn run_epochs<R: Threads + Sync, G: Gate + Sync>(
     run_turns(rt, alloc, gate, threads, slots)
 }
 
+// The same on the caller's thread alone.
+pub(crate) fn run_epochs_alone<G: Gate>(gate: &G, slots: &mut [Slot]) -> Result<(), AllocError>
+    requires few { length slots.old ≤ 256 }
+    requires served { All IsServed (map guest_in slots.old) }
+    ensures run { OnOk result (slots.new ≡ map slot_run slots.old) }
+    ensures same { OnErr result (map unprepared slots.new ≡ map unprepared slots.old) }
+    ensures memory { OnErr result (0 < running_count (map guest_in slots.old)) }
+    ensures passed { OnOk result (PassedOnce G.passed 1 (running_count (map guest_in slots.old))) }
+{
+    if !has_guests(slots) {
+        return Ok(());
+    }
+    run_alone(gate, slots)
+}
+
 // On how many threads the epochs are run: as many as are worth their starts.
 fn threads_worth(workers: u32, slots: &[Slot]) -> u32
     requires workers { (0 < workers) × (workers ≤ 64) }

@@ -1,5 +1,5 @@
 // One place of a pool: a stopped guest's specification, or a guest.
-ghost use Rattle.std.specs.Prelude.{◌≡◌, ℕ, ◌+◌, ◌-◌, ◌*◌, ◌<◌, ◌≤◌, ◌^◌, Bool, IfOk, IfSome, IsSomeAnd, OnOk, OnErr, Some, None, true, length, map, slice_get};
+ghost use Rattle.std.specs.Prelude.{◌≡◌, ℕ, ◌+◌, ◌-◌, ◌*◌, ◌<◌, ◌≤◌, ◌^◌, All, Bool, IfOk, IfSome, IsSomeAnd, OnOk, OnErr, Some, None, [], true, length, map, slice_get, vec_len, vec_capacity};
 ghost use Rattle.std.specs.FinSet as set;
 ghost use Rattle.std.specs.Option.{option_map};
 ghost use Rattle.vm_guest.specs.Boundary.{lowered, ordered, released, serviced, without_spares, with_cap, with_shares};
@@ -229,33 +229,44 @@ pub(crate) fn set_min(slot: &mut Slot, least: u32, machine: &mut Machine) -> Res
     Ok(())
 }
 
-// Ends a slot. The frames of its guest go back to their machine.
-fn close(slot: Slot, machine: &mut Machine)
-    requires { (number : ℕ) → holds number slot ≡ true → set.contains machine.old.out number ≡ true }
+// Ends a slot. The frames of its guest go back to their machine, and the specification comes back.
+fn close(slot: Slot, machine: &mut Machine) -> GuestSpec
+    requires settled { IsSettled slot }
+    requires out { (number : ℕ) → holds number slot ≡ true → set.contains machine.old.out number ≡ true }
     ensures total { machine.new.total ≡ machine.old.total }
     ensures others { (number : ℕ) → once_if (set.contains machine.new.out number) + once_if (holds number slot)
         ≡ once_if (set.contains machine.old.out number) }
     ensures count { set.len machine.new.out + held_by (guest_in slot) ≡ set.len machine.old.out }
+    ensures spec { result ≡ config_in slot }
 {
     match slot {
-        Slot::Running(guest) => {
-            let _ = guest.stop(machine);
-        }
-        Slot::Stopped(_) => {}
-        Slot::Away => {}
+        Slot::Running(guest) => guest.stop(machine),
+        Slot::Stopped(spec) => spec,
+        Slot::Away => unreachable!(),
     }
 }
 
-// Ends all slots. The frames of their guests go back to their machine, and the others stay out.
-pub(crate) fn close_all(slots: Vec<Slot>, others: &[Frame], machine: &mut Machine)
+// Ends all slots. The frames of their guests go back to their machine, the others stay out, and the specifications come back in order,
+// in the room that is there for them.
+pub(crate) fn close_all(
+    slots: Vec<Slot>,
+    others: &[Frame],
+    machine: &mut Machine,
+    specs: &mut Vec<GuestSpec>,
+)
+    requires settled { All IsSettled slots.items }
+    requires none { specs.old.items ≡ [] }
+    requires room { vec_len slots ≤ vec_capacity specs.old }
     requires owners { (number : ℕ) → holders number slots.items + times_among number others.now ≡ once_if (set.contains machine.old.out number) }
     requires held { set.len machine.old.out ≡ total_held (map guest_in slots.items) + length others.now }
     ensures owners { (number : ℕ) → times_among number others.now ≡ once_if (set.contains machine.new.out number) }
     ensures held { set.len machine.new.out ≡ length others.now }
+    ensures specs { specs.new.items ≡ map config_in slots.items }
 {
     let mut slots = slots;
     while let Some(slot) = slots.pop() {
-        close(slot, machine);
+        specs.push_reserved(close(slot, machine));
     }
     slots.destroy_empty();
+    specs.reverse();
 }

@@ -457,6 +457,41 @@ fn one_worker_serves_in_order(rt: HostRuntime) -> Result<(), Fail> {
     Ok(())
 }
 
+// How many guests are set up, and the sizes of the first two.
+fn sizes_of(specs: &[GuestSpec]) -> (usize, Option<u32>, Option<u32>) {
+    let size_at = |position: usize| Some(specs.get(position)?.size);
+    (specs.len(), size_at(0), size_at(1))
+}
+
+// A pool is closed, and what comes back makes it again.
+fn made_again(rt: &(impl AllocGlobal + Abort), pool: Pool) -> Result<Pool, Fail> {
+    let specs = pool.close();
+    check_eq(rt, sizes_of(specs.as_slice()), (2, Some(8), Some(4)));
+    assert!(rt; specs.len() <= 256);
+    match Pool::new(rt.alloc(), 20, 1, specs) {
+        Ok(pool) => Ok(pool),
+        Err(_specs) => Err(Fail::from("memory")),
+    }
+}
+
+// The specifications come back in order, of guests that run and of those that don't, and a trace begins again.
+#[test]
+fn specifications_come_back(rt: HostRuntime) -> Result<(), Fail> {
+    let mut pool = two_guests(&rt, 1)?;
+    start(&rt, &mut pool, 0);
+    run(&rt, &Open, 1, &mut pool);
+    let mut pool = made_again(&rt, pool)?;
+    check_eq(&rt, (pool.is_running(0), pool.free()), (false, 20));
+    start(&rt, &mut pool, 1);
+    let mut pool = made_again(&rt, pool)?;
+    start(&rt, &mut pool, 0);
+    start(&rt, &mut pool, 1);
+    run(&rt, &Open, 1, &mut pool);
+    check_done(&rt, &pool, [1, 0]);
+    pool.close();
+    Ok(())
+}
+
 // One worker meets nobody.
 #[test]
 fn one_ticket_at_a_time(rt: HostRuntime) -> Result<(), Fail> {

@@ -10,7 +10,7 @@ use std::thread::Threads;
 use std::{fs, io};
 use vm_sim::{Gate, Open, Ran, Watched, run};
 
-const NAMES: [&str; 37] = [
+const NAMES: [&str; 38] = [
     "admission",
     "day",
     "day-tax-0",
@@ -23,6 +23,7 @@ const NAMES: [&str; 37] = [
     "first-read",
     "five-guests",
     "freed-reads-zero",
+    "linux-driver",
     "low-and-back",
     "no-epochs",
     "no-guests",
@@ -87,7 +88,7 @@ fn written<RT: Threads + Sync, G: Gate + Sync>(
     let mut reader = Watched::new(config);
     let mut writer = Watched::new(&mut report);
     match run(rt, alloc, gate, workers, &mut reader, &mut writer) {
-        Ok(host) => host.close(),
+        Ok(host) => drop(host.close()),
         Err(_) => return None,
     }
     Some(report)

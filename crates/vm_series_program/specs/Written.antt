@@ -1,7 +1,7 @@
 -- What is written of a run, and what the exit status 3 says of the reader and the writer.
 use Rattle.std.specs.Prelude.{◌≡◌, ◌⊎◌, ℕ, Bool, true, false, List, Option, Err}
 use Rattle.std.specs.Io.KnownBytes.{Appends, Keeps}
-use Rattle.vm_charts.specs.Picture.{svg_of}
+use Rattle.vm_drawing.specs.Picture.{svg_of}
 use Rattle.vm_charts.specs.Series.{drawing_of}
 use Rattle.vm_config.specs.Reading.{config_of}
 use Rattle.vm_series.specs.Csv.{csv_text}

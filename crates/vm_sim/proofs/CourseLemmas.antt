@@ -1,14 +1,16 @@
 -- What a run keeps of a host.
 use Rattle.std.proofs.Common.{◌≡◌, ℕ, zero, suc, List, Option, Result, Ok, Err, IfOk, OnOk, OnErr, refl, ap, ◌∙◌, subst}
-use Rattle.vm_host.proofs.KeptLemmas.{machine-bounded, names-bounded}
+use Rattle.vm_host.proofs.KeptLemmas.{configs-bounded, machine-bounded, names-bounded}
+use Rattle.vm_host.specs.declared.boundary.Boundary.{Boundary}
 use Rattle.vm_host.specs.World.{World, first_world}
+use Rattle.vm_runs.specs.Course.{host_left}
 use Rattle.vm_config.specs.declared.config.Config.{Config}
 use Rattle.std.specs.Io.KnownBytes.{Appends}
 use Rattle.vm_streams.specs.Streams.{AppendsFront}
 use Rattle.vm_reclaim.specs.Policy.{policy_of}
 use Rattle.vm_sim.specs.Calendar.{RunAgenda, course_asked}
 use Rattle.vm_sim.specs.declared.agenda.Agenda.{Agenda}
-use Rattle.vm_sim.specs.Course.{Course, after_boundary, agenda_of, course_from, lines_for, next_world, world_after, world_in}
+use Rattle.vm_sim.specs.Course.{Course, after_boundary, agenda_of, course_from, lines_for, next_world, run_in, told_by_boundary, world_after, world_in}
 use Rattle.vm_sim.specs.Report.{report_in, report_of, told_at, told_in_epoch}
 
 pub machine-in : (course : Course) (k : ℕ) → (world_in course k).machine ≡ course.first.machine
@@ -18,6 +20,29 @@ machine-in course (suc k) = machine-bounded course.policy (world_in course k) (c
 names-in : (course : Course) (k : ℕ) → (world_in course k).names ≡ course.first.names
 names-in course zero = refl
 names-in course (suc k) = names-bounded course.policy (world_in course k) (course.lines k) ∙ names-in course k
+
+configs-in : (course : Course) (k : ℕ) → (world_in course k).pool.configs ≡ course.first.pool.configs
+configs-in course zero = refl
+configs-in course (suc k) = configs-bounded course.policy (world_in course k) (course.lines k) ∙ configs-in course k
+
+-- what a host is set up from, as the run began with it
+pub record IsSetUpAs (first w : World) : Type 0 where
+  pub machine : w.machine ≡ first.machine
+  pub names : w.names ≡ first.names
+  pub configs : w.pool.configs ≡ first.pool.configs
+
+pub setup-in : (course : Course) (k : ℕ) → IsSetUpAs course.first (world_in course k)
+setup-in course k = record { machine = machine-in course k; names = names-in course k; configs = configs-in course k }
+
+-- the same of the host that a boundary leaves
+pub setup-left : (course : Course) (k : ℕ) → IsSetUpAs course.first (host_left (run_in course) (suc k))
+setup-left course k =
+    let w = world_in course k in
+    record {
+      machine = machine-bounded course.policy w (course.lines k) ∙ machine-in course k;
+      names = names-bounded course.policy w (course.lines k) ∙ names-in course k;
+      configs = configs-bounded course.policy w (course.lines k) ∙ configs-in course k;
+    }
 
 -- ---- a host decides by the numbers of its machine, and its domains keep their names
 
@@ -32,6 +57,20 @@ module _ (epochs : ℕ) (agenda : Agenda) (first : World) where
   lines_kept k w is =
       ap (λ (v : World). lines_for v.names agenda k) is
       ∙ ap (λ (names : List (List ℕ)). lines_for names agenda k) (names-in course k)
+
+  -- the host that the boundary before the next epoch leaves
+  pub bound_in_course : (k : ℕ) (w next : World) → w ≡ world_in course k
+      → next ≡ after_boundary (policy_of w.machine) (lines_for w.names agenda k) w → next ≡ host_left (run_in course) (suc k)
+  unfolding after_boundary
+  bound_in_course k w next is bound =
+      bound ∙ λ i. after_boundary (policy_kept k w is i) (lines_kept k w is i) (is i)
+
+  -- and what it tells
+  pub boundary_in_course : (k : ℕ) (w : World) (told : Boundary) → w ≡ world_in course k
+      → told ≡ told_by_boundary (policy_of w.machine) (lines_for w.names agenda k) w
+      → told ≡ told_by_boundary (policy_of first.machine) (lines_for first.names agenda k) (world_in course k)
+  boundary_in_course k w told is tells =
+      tells ∙ λ i. told_by_boundary (policy_kept k w is i) (lines_kept k w is i) (is i)
 
   -- the host after one epoch more
   pub next_in_course : (k : ℕ) (w next : World) → w ≡ world_in course k

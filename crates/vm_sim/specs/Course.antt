@@ -105,3 +105,7 @@ world_after c k = world_in (course_of c) k
 -- the host that the boundary before epoch k leaves
 abbrev pub ready_world : Config → ℕ → World
 ready_world c k = host_left (run_in (course_of c)) (suc k)
+
+-- what the boundary before epoch k tells
+abbrev pub boundary_at : Config → ℕ → Boundary
+boundary_at c k = told_by_boundary (policy_of c.machine) (lines_at c k) (world_after c k)

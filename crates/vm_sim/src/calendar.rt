@@ -126,6 +126,13 @@ impl Calendar {
         &self.agenda
     }
 
+    // The same, once nothing more is asked.
+    pub(crate) fn into_agenda(self) -> Agenda
+        ensures { result ≡ self.agenda }
+    {
+        self.agenda
+    }
+
     // How many epochs the run has.
     pub(crate) fn epochs(&self) -> u32
         ensures { result ≡ self.now.epochs }

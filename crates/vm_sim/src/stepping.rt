@@ -1,9 +1,9 @@
 // A run that goes on by one epoch at a time.
-ghost use Rattle.std.specs.Prelude.{◌≡◌, ◌≢◌, ◌+◌, ◌<◌, ◌≤◌, ℕ, suc, IfOk, IfErr, OnOk, Err};
+ghost use Rattle.std.specs.Prelude.{◌≡◌, ◌≢◌, ◌+◌, ◌<◌, ◌≤◌, ℕ, suc, IfOk, IfErr, OnOk, OnErr, Err};
 ghost use Rattle.vm_config.specs.declared.config.Config.{Config as Configuration};
-ghost use Rattle.vm_reclaim.specs.Policy.{policy_of};
+ghost use Rattle.vm_host.specs.declared.phase.Phase.TheVariants.{Ready, Waiting};
 ghost use Rattle.vm_sim.specs.declared.run_error.RunError.TheVariants.{Memory, Workers};
-ghost use Rattle.vm_sim.specs.Course.{lines_for, next_world};
+ghost use Rattle.vm_sim.specs.Course.{boundary_at};
 ghost use Rattle.vm_sim.specs.Run.{FailsOnText, MeansConfig};
 
 use crate::agenda::Agenda;
@@ -14,7 +14,7 @@ use std::alloc::Global;
 use std::marker::Model;
 use std::thread::Threads;
 use vm_config::{Config, read_config};
-use vm_host::{Gate, Host};
+use vm_host::{Boundary, Gate, Host};
 
 /// The run of a configuration, which goes on by one epoch at a time, so that its host can be looked at after each. It has to be
 /// closed, since the guests hold the machine's frames.
@@ -33,11 +33,12 @@ impl Model for SteppedRun {
 }
 
 impl SteppedRun {
-    ghost use Rattle.vm_sim.specs.Stepping.{run_after};
+    ghost use Rattle.vm_sim.specs.Stepping.{run_after, run_ready};
 
-    /// The run of a configuration before its first epoch.
-    fn new(alloc: Global, config: Config) -> Result<Self, RunError>
+    /// The run of a configuration before its first epoch. An `Err` says that memory was refused; the configuration is let go then.
+    pub fn new(alloc: Global, config: Config) -> Result<Self, RunError>
         ensures start { IfOk result (λ run. run ≡ run_after config 0) }
+        ensures waits { IfOk result (λ run. run.host.phase ≡ Waiting) }
         ensures memory { IfErr result (λ error. error ≡ Memory) }
     {
         let Config {
@@ -68,6 +69,7 @@ impl SteppedRun {
     /// refused.
     pub fn of_text(alloc: Global, text: &[u8]) -> Result<Self, RunError>
         ensures start { IfOk result (λ run. MeansConfig (λ config. run ≡ run_after config 0) text.now) }
+        ensures waits { IfOk result (λ run. run.host.phase ≡ Waiting) }
         ensures failed { IfErr result (FailsOnText text.now) }
         ensures workers { result ≢ Err Workers }
     {
@@ -82,16 +84,96 @@ impl SteppedRun {
         self.calendar.epochs()
     }
 
-    /// The host after the epochs that are done.
+    /// The host after the epochs that are done, or after the boundary that follows them.
     pub fn host(&self) -> &Host
         ensures { result.now ≡ self.now.host }
     {
         &self.host
     }
 
-    /// The next epoch, with the boundary before it. The guests are served by at most `workers` threads, the caller's among them;
-    /// each guest passes the gate. Whatever their number, the host that is left is that of one worker that serves the guests in
-    /// order. It asks for an epoch that is not done yet. Where memory is refused, the run can only be closed.
+    /// The boundary before the next epoch, and what it tells. It asks for an epoch that is not done yet, and for no boundary since the
+    /// last one. Where memory is refused, the run can only be closed.
+    pub fn boundary(&mut self, alloc: Global) -> Result<Boundary, RunError>
+        requires left { self.old.done < self.old.epochs }
+        requires waits { self.old.host.phase ≡ Waiting }
+        ensures made { (config : Configuration) (k : ℕ) → self.old ≡ run_after config k
+            → OnOk result (self.new ≡ run_ready config k) }
+        ensures told { (config : Configuration) (k : ℕ) → self.old ≡ run_after config k
+            → IfOk result (λ told. told ≡ boundary_at config k) }
+        ensures ready { OnOk result (self.new.host.phase ≡ Ready) }
+        ensures counted { self.new.done ≡ self.old.done }
+        ensures epochs { self.new.epochs ≡ self.old.epochs }
+        ensures memory { IfErr result (λ error. error ≡ Memory) }
+    {
+        prove!(self.done < self.calendar.epochs());
+        let told = boundary_before(alloc, self.done, &self.calendar, &mut self.host)?;
+        Ok(told)
+    }
+
+    /// The epoch after its boundary, on at most `workers` threads, the caller's among them; each guest passes the gate. Whatever
+    /// their number, the host that is left is that of one worker that serves the guests in order. It asks for a boundary since the
+    /// last epoch. Where memory is refused, nothing changes.
+    pub fn epoch<RT: Threads + Sync, G: Gate + Sync>(
+        &mut self,
+        rt: &RT,
+        alloc: Global,
+        gate: &G,
+        workers: u32,
+    ) -> Result<(), RunError>
+        requires workers { (0 < workers) × (workers ≤ 64) }
+        requires left { self.old.done < self.old.epochs }
+        requires ready { self.old.host.phase ≢ Waiting }
+        ensures next { (config : Configuration) (k : ℕ) → self.old ≡ run_ready config k
+            → OnOk result (self.new ≡ run_after config (suc k)) }
+        ensures waits { OnOk result (self.new.host.phase ≡ Waiting) }
+        ensures counted { OnOk result (self.new.done ≡ self.old.done + 1) }
+        ensures epochs { OnOk result (self.new.epochs ≡ self.old.epochs) }
+        ensures unchanged { OnErr result (self.new ≡ self.old) }
+        ensures memory { IfErr result (λ error. error ≡ Memory) }
+    {
+        prove!(self.done < self.calendar.epochs());
+        self.host.epoch(rt, alloc, gate, workers)?;
+        self.done += 1;
+        Ok(())
+    }
+
+    /// The same on the caller's thread alone, which needs no runtime: the guests are served in order.
+    pub fn epoch_alone<G: Gate>(&mut self, gate: &G) -> Result<(), RunError>
+        requires left { self.old.done < self.old.epochs }
+        requires ready { self.old.host.phase ≢ Waiting }
+        ensures next { (config : Configuration) (k : ℕ) → self.old ≡ run_ready config k
+            → OnOk result (self.new ≡ run_after config (suc k)) }
+        ensures waits { OnOk result (self.new.host.phase ≡ Waiting) }
+        ensures counted { OnOk result (self.new.done ≡ self.old.done + 1) }
+        ensures epochs { OnOk result (self.new.epochs ≡ self.old.epochs) }
+        ensures unchanged { OnErr result (self.new ≡ self.old) }
+        ensures memory { IfErr result (λ error. error ≡ Memory) }
+    {
+        prove!(self.done < self.calendar.epochs());
+        self.host.epoch_alone(gate)?;
+        self.done += 1;
+        Ok(())
+    }
+
+    // The boundary before the next epoch, unless it is done.
+    fn make_ready(&mut self, alloc: Global) -> Result<(), RunError>
+        requires { self.old.done < self.old.epochs }
+        ensures made { (config : Configuration) (k : ℕ) → self.old ≡ run_after config k
+            → OnOk result (self.new ≡ run_ready config k) }
+        ensures ready { OnOk result (self.new.host.phase ≢ Waiting) }
+        ensures counted { self.new.done ≡ self.old.done }
+        ensures epochs { self.new.epochs ≡ self.old.epochs }
+        ensures memory { IfErr result (λ error. error ≡ Memory) }
+    {
+        if self.host.ready() {
+            return Ok(());
+        }
+        self.boundary(alloc)?;
+        Ok(())
+    }
+
+    /// The next epoch, with the boundary before it unless that is done: what [`SteppedRun::boundary`] and [`SteppedRun::epoch`] do.
+    /// It asks for an epoch that is not done yet. Where memory is refused, the run can only be closed.
     pub fn step<RT: Threads + Sync, G: Gate + Sync>(
         &mut self,
         rt: &RT,
@@ -103,52 +185,38 @@ impl SteppedRun {
         requires left { self.old.done < self.old.epochs }
         ensures next { (config : Configuration) (k : ℕ) → self.old ≡ run_after config k
             → OnOk result (self.new ≡ run_after config (suc k)) }
+        ensures waits { OnOk result (self.new.host.phase ≡ Waiting) }
         ensures counted { OnOk result (self.new.done ≡ self.old.done + 1) }
         ensures epochs { OnOk result (self.new.epochs ≡ self.old.epochs) }
         ensures memory { IfErr result (λ error. error ≡ Memory) }
     {
-        prove!(self.done < self.calendar.epochs());
-        next_epoch(
-            rt,
-            alloc,
-            gate,
-            workers,
-            self.done,
-            &self.calendar,
-            &mut self.host,
-        )?;
-        self.done += 1;
+        self.make_ready(alloc)?;
+        self.epoch(rt, alloc, gate, workers)?;
         Ok(())
     }
 
-    /// Ends the run. Its guests are stopped, and all frames go back to the machine.
-    pub fn close(self) {
+    /// Ends the run. Its guests are stopped, all frames go back to the machine, and the configuration comes back. It takes no memory.
+    pub fn close(self) -> Config
+        ensures back { (config : Configuration) (k : ℕ) → self ≡ run_after config k → result ≡ config }
+        ensures ready { (config : Configuration) (k : ℕ) → self ≡ run_ready config k → result ≡ config }
+    {
         let SteppedRun {
             host,
-            calendar: _,
+            calendar,
             done: _,
         } = self;
-        host.close();
+        let machine = host.machine();
+        let epochs = calendar.epochs();
+        let Agenda {
+            autostart,
+            commands,
+        } = calendar.into_agenda();
+        Config {
+            machine,
+            epochs,
+            domains: host.close(),
+            autostart,
+            commands,
+        }
     }
-}
-
-// An epoch, with the boundary before it.
-fn next_epoch<RT: Threads + Sync, G: Gate + Sync>(
-    rt: &RT,
-    alloc: Global,
-    gate: &G,
-    workers: u32,
-    number: u32,
-    calendar: &Calendar,
-    host: &mut Host,
-) -> Result<(), RunError>
-    requires workers { (0 < workers) × (workers ≤ 64) }
-    requires left { number < calendar.now.epochs }
-    ensures host { OnOk result (host.new
-        ≡ next_world (policy_of host.old.machine) (lines_for host.old.names calendar.now.agenda number) host.old) }
-    ensures memory { IfErr result (λ error. error ≡ Memory) }
-{
-    let _told = boundary_before(alloc, number, calendar, host)?;
-    host.epoch(rt, alloc, gate, workers)?;
-    Ok(())
 }

@@ -34,6 +34,19 @@ impl Model for Trace {
     ghost invariant = { λ t. AreKept t.bytes.items t.entries.items };
 }
 
+/// `clone` gives a trace of the same steps in memory of its own, with room for no more. It copies the memory whole, and not step by
+/// step. An `Err` says that memory was refused.
+impl Clone for Trace {
+    ghost is_clone = { λ trace copy. copy ≡ trace };
+
+    fn clone(&self) -> Result<Trace, AllocError> {
+        let alloc = *self.entries.allocator();
+        let entries = Vec::from_slice(alloc, self.entries.as_slice())?;
+        let bytes = Vec::from_slice(alloc, self.bytes.as_slice())?;
+        Ok(Trace { entries, bytes })
+    }
+}
+
 impl Trace {
     /// A trace with no step.
     pub fn new(alloc: Global) -> Self

@@ -216,6 +216,27 @@ fn steps_are_told_without_their_bytes(rt: HostRuntime) {
     check_kind(&rt, &trace, 5, None, &[]);
 }
 
+// Asserts that a trace has three steps, a write of two bytes, one that does nothing, and a raw buffer of one byte.
+fn check_three_steps(rt: &impl Abort, trace: &Trace) {
+    check_eq(rt, trace.len(), 3);
+    let (page, offset) = (262143, 4080);
+    let write = StepKind::Write { page, offset };
+    check_kind(rt, trace, 0, Some(write), &[0xff, 0xfe]);
+    check_kind(rt, trace, 1, Some(StepKind::Idle), &[]);
+    let queue = Queue::Deflate;
+    check_kind(rt, trace, 2, Some(StepKind::Post { queue }), &[3]);
+}
+
+#[test]
+fn traces_are_copied(rt: HostRuntime) {
+    let mut trace = Trace::new(rt.alloc());
+    check_steps(&rt, &mut trace, &["w 262143 4080 fffe", "i", "p d 03"]);
+    let copy = trace.clone().expect(&rt, "memory");
+    check_eq(&rt, trace.push_text("w 0 0 00", 262144, 1), Ok(()));
+    check_eq(&rt, trace.len(), 4);
+    check_three_steps(&rt, &copy);
+}
+
 // Asserts that a text adds this step to a trace of a guest with 65536 pages.
 fn check_added(rt: &impl Abort, trace: &mut Trace, text: &str, wanted: Action) {
     let place = trace.len();

@@ -4,7 +4,8 @@ use std::alloc::{AllocError, Global};
 use std::process::Abort;
 use std::test::Fail;
 use std::thread::Threads;
-use vm_charts::{Axis, Chart, Curve, Drawing, draw, svg_text};
+use vm_charts::svg_text;
+use vm_drawing::{Axis, Chart, Curve, Drawing, draw};
 use vm_host::Open;
 use vm_series::collect_series;
 

@@ -67,6 +67,32 @@ fn assert_names(rt: &impl Abort, host: &Host) {
     );
 }
 
+// The first boundary of a host of two guests, and the epoch behind it on this thread: the first guest takes two steps.
+fn begin(rt: &(impl AllocGlobal + Abort), lone: &mut LoneHost) {
+    lone.boundary_tells(rt, &["start web", "start db"], quiet(State::High, 94));
+    lone.epoch_alone(rt, &Open);
+    assert_steps_done(rt, lone.host(), 0, 2);
+}
+
+// The domains of a closed host come back in order, and a host that is made of them goes the same way.
+#[test]
+fn domains_come_back(rt: HostRuntime) -> Result<(), Fail> {
+    let rt = &rt;
+    let steps = ["w 0 0 ff", "r 0 0 4"];
+    let guests = [("web", guest(4, 4)), ("db", guest(2, 2))];
+    let mut lone = LoneHost::of_guests(rt, machine(100, 0), &guests, &steps)?;
+    check_eq(rt, lone.host().machine().frames, 100);
+    begin(rt, &mut lone);
+    let domains = lone.close();
+    let places = (domains.position("web"), domains.position("db"));
+    check_eq(rt, (domains.len(), places), (2, (Some(0), Some(1))));
+    let mut again = LoneHost::new(rt, machine(100, 0), domains);
+    assert_nothing_runs(rt, again.host());
+    begin(rt, &mut again);
+    again.close();
+    Ok(())
+}
+
 // Each of two tickets sets its own mark, and looks for the other's.
 #[derive(Drop)]
 struct Meeting {

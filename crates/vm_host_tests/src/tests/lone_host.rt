@@ -128,9 +128,16 @@ impl LoneHost {
         &self.host
     }
 
-    pub(super) fn close(self) {
+    // The epoch behind it, on this thread.
+    pub(super) fn epoch_alone(&mut self, rt: &impl Abort, gate: &impl Gate) {
+        assert!(rt; self.host.ready());
+        self.host.epoch_alone(gate).expect(rt, "memory");
+        assert!(rt; !self.host.ready());
+    }
+
+    pub(super) fn close(self) -> Domains {
         let LoneHost { host } = self;
-        host.close();
+        host.close()
     }
 }
 

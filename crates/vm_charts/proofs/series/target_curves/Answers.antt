@@ -1,5 +1,5 @@
 use Rattle.std.proofs.Common.{[]}
-use Rattle.vm_charts.proofs.PictureLemmas.{one_more}
+use Rattle.vm_drawing.proofs.PictureLemmas.{one_more}
 use Rattle.vm_charts.specs.Series.{target_curve}
 use Rattle.vm_charts.proofs.series.target_curves.Goals as goal
 

@@ -6,11 +6,11 @@ use Rattle.vm_host.specs.Fairness.{IsFairBoundary}
 use Rattle.vm_host.specs.Parts.{world_of}
 use Rattle.vm_host.specs.Sound.{IsSoundWorld}
 use Rattle.vm_host.specs.World.{Conserves, FailsFrom, World}
-use Rattle.vm_host.proofs.FailLemmas.{fails-from, fails-some, fails-whole}
+use Rattle.vm_host.proofs.FailLemmas.{fails-from, fails-some, fails-whole, paired-kept}
 use Rattle.vm_host.proofs.FairnessLemmas.{fair-bounded}
 use Rattle.vm_host.proofs.KeptLemmas.{ready-bounded}
 use Rattle.vm_host.proofs.LineLemmas.{bounded-sound}
-use Rattle.vm_host.proofs.SoundLemmas.{few-domains}
+use Rattle.vm_host.proofs.SoundLemmas.{paired-domains}
 use Rattle.vm_reclaim.specs.Policy.{policy_of}
 use Rattle.vm_host.proofs.host.Host.boundary.Goals as goal
 
@@ -59,7 +59,7 @@ invariant_of-self c =
     let lines = map string_bytes c.as_slice.result.now in
     let fails : w.phase ≢ Failed = λ is. search rules in
     let sound = subst (λ (v : World). IsSoundWorld v) (sym c.in-Ok.ensures.done) (bounded-sound (policy_of w.machine) w lines (c.self.invariant.sound fails)) in
-    record { few = few-domains _ sound; adds_up = sound.conserves; sound = λ _. sound; booked = λ _. c.in-Ok.ensures.booked }
+    record { paired = paired-domains _ sound; adds_up = sound.conserves; sound = λ _. sound; booked = λ _. c.in-Ok.ensures.booked }
 
 pub returns-in-Ok-clause-done : goal.returns-in-Ok-clause-done
 returns-in-Ok-clause-done c = c.in-Ok.ensures.done ∙ (λ j. bounded (c.self.view_is j) (c.as_slice.ensures j))
@@ -124,7 +124,7 @@ invariant_of-self-in-Err c =
     let failed = ap (λ (v : World). v.phase) c.fail.ensures.failed in
     let from = fails-from w (world_of c.bound.new.parts) (world_of c.fail.new.parts) c.in-Err.ensures.kept c.fail.ensures.failed in
     record {
-      few = subst (λ (names : List (List ℕ)). length names ≤ 256) (sym from.names) c.self.invariant.few;
+      paired = paired-kept w (world_of c.fail.new.parts) from c.self.invariant.paired;
       adds_up = fails-whole w (world_of c.bound.new.parts) (world_of c.fail.new.parts) (c.self.invariant.sound fails) c.in-Err.ensures.kept c.fail.ensures.failed c.fail.ensures.adds_up;
       sound = λ no. absurd (no failed);
       booked = λ no. absurd (no failed);

@@ -12,7 +12,7 @@ use Rattle.vm_host.specs.Parts.{world_of}
 use Rattle.vm_host.specs.Sound.{IsSoundWorld}
 use Rattle.vm_host.specs.World.{World, first_world}
 use Rattle.vm_host.proofs.FirstLemmas.{books-first, sound-first}
-use Rattle.vm_host.proofs.SoundLemmas.{few-domains}
+use Rattle.vm_host.proofs.SoundLemmas.{paired-domains}
 use Rattle.vm_host.proofs.host.Host.new.Goals as goal
 
 pub returns-in-Ok-clause-first : goal.returns-in-Ok-clause-first
@@ -51,7 +51,7 @@ invariant_of-result c =
     c.first_parts.ensures ∙ (λ i. record { machine = spec; names = named i; pool = pool i; state = High; phase = Waiting }) in
     let sound = subst (λ (w : World). IsSoundWorld w) (sym is) (sound-first spec domains machine (omega (arith, long, few)) limits) in
     record {
-      few = few-domains _ sound;
+      paired = paired-domains _ sound;
       adds_up = sound.conserves;
       sound = λ _. sound;
       booked = λ _. c.new-in-Ok.ensures ∙ (ap (λ (m : MachineConfig). empty_accounts m.frames m.swap m.overhead) c.spec-in-Ok.view_is ∙ (books-first spec domains ∙ ap books_of (sym is)));

@@ -13,9 +13,11 @@ invariant_of-result c =
     c.most_aside-most.ensures ∙ ap (λ n. most_aside c.args.overhead n c.args.frames) guests in
     let room : most_aside c.args.overhead (length c.args.specs.items) c.args.frames ≤ vec_capacity c.in-Ok-with_capacity.aside =
     omega (arith, most, c.in-Ok-with_capacity.ensures.capacity) in
-    first-is_pool _ c.args.frames c.args.specs.items fits few c.stopped-slots.ensures c.in-Ok-with_capacity.ensures.items room c.in-Ok-new.ensures
+    let home : length c.args.specs.items ≤ vec_capacity c.stopped-slots.new.specs = omega (arith, c.stopped-slots.ensures.room, c.args.specs.ok) in
+    first-is_pool _ c.args.frames c.args.specs.items fits few c.stopped-slots.ensures.slots c.in-Ok-with_capacity.ensures.items room c.in-Ok-new.ensures
+    c.stopped-slots.ensures.none home
 
 pub returns-clause-first : goal.returns-clause-first
 returns-clause-first c =
-    let p : Inside = record { machine = c.in-Ok-new.machine; overhead = c.args.overhead; aside = c.in-Ok-with_capacity.aside; slots = c.stopped-slots.result } in
-    first-view p c.args.frames c.args.specs.items c.stopped-slots.ensures c.in-Ok-new.ensures
+    let p : Inside = record { machine = c.in-Ok-new.machine; overhead = c.args.overhead; aside = c.in-Ok-with_capacity.aside; slots = c.stopped-slots.result; specs = c.stopped-slots.new.specs } in
+    first-view p c.args.frames c.args.specs.items c.stopped-slots.ensures.slots c.in-Ok-new.ensures

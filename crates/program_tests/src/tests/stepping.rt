@@ -1,0 +1,81 @@
+// Runs that go on by one epoch at a time on this thread, and what comes back at their ends.
+ghost use Rattle.std.specs.Prelude.{◌≡◌, ◌+◌, ◌<◌, OnOk};
+ghost use Rattle.vm_host.specs.declared.phase.Phase.TheVariants.{Waiting};
+
+use super::setup::{LOW_AND_BACK, LOW_AND_BACK_REPORT, assert_bytes};
+use std::alloc::Global;
+use std::process::Abort;
+use vm_sim::{
+    Config, Open, RunError, SteppedRun, boundary_text, end_text, epoch_text, read_config,
+};
+
+// The next epoch with its boundary, and what is told of them.
+fn tell_epoch(
+    alloc: Global,
+    number: u32,
+    run: &mut SteppedRun,
+    told: &mut String,
+) -> Result<(), RunError>
+    requires left { run.old.done < run.old.epochs }
+    requires waits { run.old.host.phase ≡ Waiting }
+    ensures waits { OnOk result (run.new.host.phase ≡ Waiting) }
+    ensures counted { OnOk result (run.new.done ≡ run.old.done + 1) }
+    ensures epochs { OnOk result (run.new.epochs ≡ run.old.epochs) }
+{
+    let boundary = run.boundary(alloc)?;
+    let text = boundary_text(alloc, number, run.host(), &boundary)?;
+    told.push_str(text.as_str())?;
+    run.epoch_alone(&Open)?;
+    let text = epoch_text(alloc, run.host())?;
+    told.push_str(text.as_str())?;
+    Ok(())
+}
+
+// What is told of a run from its first epoch to its end.
+fn told_of(alloc: Global, run: &mut SteppedRun) -> Result<String, RunError>
+    requires fresh { run.old.done ≡ 0 }
+    requires waits { run.old.host.phase ≡ Waiting }
+{
+    let mut told = String::new(alloc);
+    for number in 0..run.epochs() {
+        tell_epoch(alloc, number, run, &mut told)?;
+    }
+    let text = end_text(alloc, run.host())?;
+    told.push_str(text.as_str())?;
+    Ok(told)
+}
+
+// The run of a configuration before its first epoch.
+fn begin(rt: &(impl Abort + AllocGlobal), config: Config) -> SteppedRun
+    ensures fresh { result.done ≡ 0 }
+    ensures waits { result.host.phase ≡ Waiting }
+{
+    SteppedRun::new(rt.alloc(), config).expect(rt, "there is memory")
+}
+
+// Runs a configuration to its end, asserts its report, and gives back what it was run from.
+fn run_through(rt: &(impl Abort + AllocGlobal), config: Config, report: &str) -> Config {
+    let mut run = begin(rt, config);
+    let told = told_of(rt.alloc(), &mut run).expect(rt, "there is memory");
+    let config = run.close();
+    assert_bytes(rt, told.as_str().as_bytes(), report.as_bytes());
+    config
+}
+
+// Ends a run after its first boundary, and gives back what it was run from.
+fn end_early(rt: &(impl Abort + AllocGlobal), config: Config) -> Config {
+    let mut run = begin(rt, config);
+    assert!(rt; run.epochs() > 0);
+    let boundary = run.boundary(rt.alloc()).expect(rt, "there is memory");
+    assert!(rt; boundary.answers.as_slice().len() > 0);
+    run.close()
+}
+
+// What comes back of a run begins again and goes the same way, wherever the run ended.
+#[test]
+fn a_run_begins_again(rt: HostRuntime) {
+    let config = read_config(rt.alloc(), LOW_AND_BACK.as_bytes()).expect(&rt, "a configuration");
+    let config = run_through(&rt, config, LOW_AND_BACK_REPORT);
+    let config = end_early(&rt, config);
+    run_through(&rt, config, LOW_AND_BACK_REPORT);
+}

@@ -1,7 +1,0 @@
-use Rattle.std.proofs.Common.{◌≡◌, max, drop}
-use Rattle.vm_charts.specs.Samples.{greatest}
-use Rattle.vm_charts.proofs.samples.greatest.Given as goal
-
--- the values that are left may have a greater one
-abbrev pub invariant-loop-value : goal.invariant-loop-value
-invariant-loop-value l = max l.most (greatest (drop l.value-index l.values)) ≡ greatest l.values

@@ -1,7 +1,0 @@
-use Rattle.std.proofs.Common.{◌≡◌, ◌++◌, drop}
-use Rattle.vm_charts.specs.Shapes.{escaped}
-use Rattle.vm_charts.proofs.texts.put_escaped.Given as goal
-
--- the bytes that are left complete the text
-abbrev pub invariant-loop-byte : goal.invariant-loop-byte
-invariant-loop-byte l = l.text.items ++ escaped (drop l.byte-index l.bytes) ≡ l.fn.text.items ++ escaped l.bytes

@@ -1,0 +1,4 @@
+pub mod PictureLemmas
+pub mod ScaleLemmas
+pub mod RoundLemmas
+pub mod StackedLemmas

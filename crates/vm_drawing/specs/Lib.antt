@@ -1,0 +1,9 @@
+pub mod Values
+pub mod Scale
+pub mod Round
+pub mod Drawing
+pub mod Curves
+pub mod Shapes
+pub mod Picture
+pub mod Layout
+pub mod Stacked

@@ -1,0 +1,19 @@
+//! Charts over one axis, as one SVG (Scalable Vector Graphics 1.1).
+//!
+//! [`draw`] draws a [`Drawing`]: charts below each other, with curves that are level between whole places, or straight from each value to
+//! the next. Its clause fixes the text to its last byte: it is `svg_of` of `specs/Picture.antt`, where each word, line, curve and mark
+//! has its place.
+#![tactic(auto)]
+
+mod area;
+mod drawing;
+mod law;
+mod picture;
+mod scale;
+mod texts;
+mod values;
+
+pub use drawing::{Chart, Curve, Drawing};
+pub use law::{law_round, law_stacked};
+pub use picture::draw;
+pub use scale::Axis;

@@ -1,0 +1,12 @@
+pub mod Choices
+pub mod DotLaws
+pub mod GrammarLaws
+pub mod ItemLaws
+pub mod ListLaws
+pub mod NumberLaws
+pub mod PlaceLaws
+pub mod RangeLaws
+pub mod ReadLaws
+pub mod ShownLaws
+pub mod SpelledLaws
+pub mod WithinLaws

@@ -1,0 +1,8 @@
+use Rattle.vm_lists.proofs.RangeLaws.{range_within, range_last}
+use Rattle.vm_lists.proofs.ranges.Spaced.range.Goals as goal
+
+pub returns-clause-within : goal.returns-clause-within
+returns-clause-within c = rw c.from.ensures (range_within c.args.from c.args.to c.args.step c.requires.ordered)
+
+pub returns-clause-last : goal.returns-clause-last
+returns-clause-last c = rw c.from.ensures (range_last c.args.from c.args.to c.args.step c.requires.ordered c.requires.step)

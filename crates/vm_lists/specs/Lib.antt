@@ -1,0 +1,6 @@
+pub mod Items
+pub mod ListGrammar
+pub mod Lists
+pub mod Numbers
+pub mod Ranges
+pub mod Shown

@@ -1,0 +1,3 @@
+pub mod SumLemmas
+pub mod NextLemmas
+pub mod FirstLemmas

@@ -1,0 +1,3 @@
+mod OptionLemmas
+mod NumberLemmas
+mod WordsLemmas

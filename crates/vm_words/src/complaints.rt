@@ -1,0 +1,83 @@
+//! What is said on standard error, and the exit status that goes with it.
+ghost use Rattle.std.specs.Prelude.{◌≡◌};
+
+use crate::command_line::CommandLine;
+use std::fmt;
+use std::fmt::Display;
+
+/// The whole output was written.
+pub const DONE: u8 = 0;
+
+/// The input is refused.
+pub const BAD_INPUT: u8 = 1;
+
+/// The words are refused, or ask for help.
+pub const BAD_WORDS: u8 = 2;
+
+/// Reading or writing failed, or memory was refused.
+pub const BAD_SYSTEM: u8 = 3;
+
+// How a program is called, in a line.
+#[derive(Clone, Copy)]
+struct Usage<'a>(&'a CommandLine);
+
+impl<'a> Display for Usage<'a> {
+    fn fmt<W: fmt::Write>(&self, f: &mut fmt::Formatter<W>) -> fmt::Result {
+        let line = self.0;
+        write!(f, "usage: {}", line.program)?;
+        for flag in line.flags {
+            write!(f, " [--{}]", flag.name)?;
+        }
+        for value in line.values {
+            write!(f, " [--{} {}]", value.name, value.value_name)?;
+        }
+        write!(f, " < {} > {}", line.takes, line.gives)
+    }
+}
+
+impl CommandLine {
+    /// Says that memory was refused, and gives the status to end with.
+    pub fn no_memory(&self, system: &impl Eprint) -> u8
+        ensures { result ≡ 3 }
+    {
+        let program = self.program;
+        let _ = eprintln!(system; "{program}: out of memory");
+        BAD_SYSTEM
+    }
+
+    /// Says that the input could not be read, and gives the status to end with.
+    pub fn read_failed(&self, system: &impl Eprint) -> u8
+        ensures { result ≡ 3 }
+    {
+        let program = self.program;
+        let _ = eprintln!(system; "{program}: read failed");
+        BAD_SYSTEM
+    }
+
+    /// Says that the output could not be written, and gives the status to end with.
+    pub fn write_failed(&self, system: &impl Eprint) -> u8
+        ensures { result ≡ 3 }
+    {
+        let program = self.program;
+        let _ = eprintln!(system; "{program}: write failed");
+        BAD_SYSTEM
+    }
+
+    /// Says how the program is called, and gives the status to end with.
+    pub fn usage(&self, system: &impl Eprint) -> u8
+        ensures { result ≡ 2 }
+    {
+        let usage = Usage(self);
+        let _ = eprintln!(system; "{usage}");
+        BAD_WORDS
+    }
+
+    /// Says why the input is refused, and gives the status to end with.
+    pub fn refuse<D: Display + Drop>(&self, system: &impl Eprint, why: D) -> u8
+        ensures { result ≡ 1 }
+    {
+        let program = self.program;
+        let _ = eprintln!(system; "{program}: {why}");
+        BAD_INPUT
+    }
+}

@@ -1,0 +1,25 @@
+// Which words are taken, and what they ask for, by examples.
+ghost use Rattle.std.specs.Prelude.{◌∷◌, [], None, Some, codes, false, true};
+ghost use Rattle.vm_words.specs.Examples.{AreRefused, AskFor};
+
+/// Worked examples of words that a small command line takes, with what they ask for: whether the flags `--guests` and `--svg` are
+/// given, the text of `--name` and the number of `--workers`, of 1 to 64. And of words that it refuses.
+pub fn law_words()
+    ensures none { AskFor [] false false None None }
+    ensures flag { AskFor (codes "--svg" ∷ []) false true None None }
+    ensures other_flag { AskFor (codes "--guests" ∷ []) true false None None }
+    ensures number { AskFor (codes "--workers=64" ∷ []) false false None (Some 64) }
+    ensures least { AskFor (codes "--workers" ∷ codes "1" ∷ []) false false None (Some 1) }
+    ensures text { AskFor (codes "--name" ∷ codes "64" ∷ []) false false (Some (codes "64")) None }
+    ensures many { AskFor (codes "--workers=+07" ∷ codes "--guests" ∷ codes "--name=a b" ∷ []) true false (Some (codes "a b")) (Some 7) }
+    ensures beside { AreRefused (codes "--svg" ∷ codes "--guests" ∷ []) }
+    ensures twice { AreRefused (codes "--svg" ∷ codes "--svg" ∷ []) }
+    ensures flag_value { AreRefused (codes "--svg=true" ∷ []) }
+    ensures less { AreRefused (codes "--workers=0" ∷ []) }
+    ensures more { AreRefused (codes "--workers" ∷ codes "65" ∷ []) }
+    ensures no_number { AreRefused (codes "--workers=many" ∷ []) }
+    ensures no_value { AreRefused (codes "--name" ∷ []) }
+    ensures unknown { AreRefused (codes "--frames=1" ∷ []) }
+    ensures stray { AreRefused (codes "svg" ∷ []) }
+    ensures help { AreRefused (codes "--help" ∷ []) }
+{}
