@@ -1,0 +1,4 @@
+pub mod SweptRuns
+pub mod CurveNames
+pub mod SweepDrawing
+pub mod OnAxis

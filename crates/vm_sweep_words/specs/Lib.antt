@@ -1,0 +1,6 @@
+pub mod CommandLine
+pub mod Keys
+pub mod Lists
+pub mod Refused
+pub mod Taken
+pub mod Examples
