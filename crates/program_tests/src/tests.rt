@@ -12,4 +12,5 @@ mod sweeps;
 mod system;
 mod vmmem;
 mod vmseries;
+mod vmsweep;
 mod workers;

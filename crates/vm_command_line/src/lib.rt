@@ -1,14 +1,12 @@
-//! The command lines of the programs over `vm_sim`, and what they say on standard error.
+//! What the programs over `vm_sim` say of a run that stopped, and the word `--workers`.
 //!
-//! A [`CommandLine`] is `PROGRAM [--workers N]`, with a flag of the program's own where it has one. It reads the words to a
-//! [`Request`], and says why words, a configuration, the input or the output are refused, each with its exit status. Which words it
-//! takes is said over `clap`'s own definitions (`specs/Words.antt`); `specs/Statuses.antt` has the exit statuses.
+//! [`complain`] says on standard error why a run stopped, and [`complain_of_text`] also where the first fault of its text stands.
+//! Each gives the exit status (`specs/Statuses.antt`). [`WORKERS`] is the word, and [`workers_of`] the number that is asked for by
+//! it (`specs/Words.antt`). The words themselves are read by `vm_words`.
 #![tactic(auto)]
 
-mod command_line;
 mod complaints;
-mod request;
+mod workers;
 
-pub use command_line::{CommandLine, Flag};
-pub use complaints::DONE;
-pub use request::Request;
+pub use complaints::{complain, complain_of_text};
+pub use workers::{WORKERS, workers_of};

@@ -1,8 +1,13 @@
 -- Which words the command line `vmmem [--workers N]` takes.
-use Rattle.std.specs.Prelude.{List, None, codes}
+use Rattle.std.specs.Prelude.{List, [], ◌∷◌, codes}
 use Rattle.clap.specs.Words.{Text}
-use Rattle.vm_command_line.specs.Words.{AreTaken as AreTakenBy}
+use Rattle.vm_command_line.specs.Words.{workers_rule}
+use Rattle.vm_words.specs.Words.{AreTaken as AreTakenBy, Line}
 
--- the words, of which the first is the program's name, have no fault, and ask for no help
+-- `vmmem [--workers N]`
+abbrev pub vmmem_line : Line
+vmmem_line = record { program = codes "vmmem"; flags = []; values = workers_rule ∷ [] }
+
+-- words that are taken, of which the first is the program's name
 abbrev pub AreTaken : List Text → Type 0
-AreTaken words = AreTakenBy (codes "vmmem") None words
+AreTaken words = AreTakenBy vmmem_line words

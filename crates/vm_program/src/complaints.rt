@@ -32,6 +32,6 @@ pub fn complain(system: &impl Eprint, error: RunError) -> u8
 {
     match error {
         RunError::Config(fault) => LINE.refuse(system, Numbered(fault)),
-        _ => LINE.complain(system, error),
+        _ => vm_command_line::complain(&LINE, system, error),
     }
 }

@@ -1,9 +1,12 @@
 //! How the program is called.
-use vm_command_line::CommandLine;
+use vm_command_line::WORKERS;
+use vm_words::CommandLine;
 
 /// `vmmem [--workers N] < CONFIGURATION > REPORT`
 pub const LINE: CommandLine = CommandLine {
     program: "vmmem",
-    output: "REPORT",
-    flag: None,
+    takes: "CONFIGURATION",
+    gives: "REPORT",
+    flags: &[],
+    values: &[WORKERS],
 };

@@ -14,8 +14,9 @@ use std::io;
 use std::process::ExitCode;
 use std::rt::Env;
 use std::thread::Threads;
-use vm_command_line::DONE;
+use vm_command_line::workers_of;
 use vm_sim::{Open, Sink, Source, Watched, run};
+use vm_words::DONE;
 
 /// What [`status`] does, with these words in place of the system's. The first is the program's name.
 pub fn status_for<RT: Threads + Sync, R: Source, W: Sink>(
@@ -43,7 +44,8 @@ pub fn status_for<RT: Threads + Sync, R: Source, W: Sink>(
         Ok(request) => request,
         Err(status) => return status,
     };
-    match run(rt, system.alloc(), &Open, request.workers, reader, writer) {
+    let workers = workers_of(&request);
+    match run(rt, system.alloc(), &Open, workers, reader, writer) {
         Ok(host) => {
             host.close();
             DONE

@@ -1,12 +1,21 @@
 -- Which words the command line `vmseries [--svg] [--workers N]` takes, and which ask for a drawing.
-use Rattle.std.specs.Prelude.{Bool, List, Some, codes}
+use Rattle.std.specs.Prelude.{Bool, List, [], ◌∷◌, None, codes}
 use Rattle.clap.specs.Words.{Text}
-use Rattle.vm_command_line.specs.Words.{AreTaken as AreTakenBy, has_flag}
+use Rattle.vm_command_line.specs.Words.{workers_rule}
+use Rattle.vm_words.specs.Words.{AreTaken as AreTakenBy, Line, asked, has_flag}
 
--- the words, of which the first is the program's name, have no fault, and ask for no help
+-- `vmseries [--svg] [--workers N]`
+abbrev pub vmseries_line : Line
+vmseries_line = record {
+  program = codes "vmseries";
+  flags = record { name = codes "svg"; beside = None } ∷ [];
+  values = workers_rule ∷ [];
+}
+
+-- words that are taken, of which the first is the program's name
 abbrev pub AreTaken : List Text → Type 0
-AreTaken words = AreTakenBy (codes "vmseries") (Some (codes "svg")) words
+AreTaken words = AreTakenBy vmseries_line words
 
 -- `--svg` is among words that are taken
 abbrev pub wants_drawing : List Text → Bool
-wants_drawing words = has_flag (codes "vmseries") (Some (codes "svg")) words
+wants_drawing words = has_flag (codes "svg") (asked vmseries_line words)

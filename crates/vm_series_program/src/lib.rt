@@ -5,7 +5,6 @@
 //! and writer, and [`status_for`] over any words.
 #![tactic(auto)]
 
-mod complaints;
 mod law;
 mod line;
 mod program;

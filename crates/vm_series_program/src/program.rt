@@ -1,50 +1,52 @@
 //! From the words of the command line to the exit status.
-ghost use Rattle.std.specs.Prelude.{◌≡◌, ◌≢◌, ◌<◌, ◌≤◌, Bool, map, string_bytes};
+ghost use Rattle.std.specs.Prelude.{◌≡◌, ◌≢◌, ◌<◌, ◌≤◌, Bool, codes, map, string_bytes};
 ghost use Rattle.std.specs.Io.KnownBytes.{Keeps};
 ghost use Rattle.std.specs.Process.{exit_status};
 ghost use Rattle.vm_command_line.specs.Statuses.{IsRefused};
+ghost use Rattle.vm_command_line.specs.Words.{HasWorkersInRange};
 ghost use Rattle.vm_series.specs.Rows.{rows_of};
 ghost use Rattle.vm_series_program.specs.CommandLine.{AreTaken, wants_drawing};
 ghost use Rattle.vm_series_program.specs.Written.{StopsEarly, Writes};
 ghost use Rattle.vm_sim.specs.Run.{NewlyFailed, RunsConfig};
+ghost use Rattle.vm_words.specs.Words.{has_flag};
 
-use crate::complaints::complain;
 use crate::line::LINE;
 use crate::writing::write_run;
 use std::io;
 use std::process::ExitCode;
 use std::rt::Env;
 use std::thread::Threads;
-use vm_command_line::{DONE, Request};
+use vm_command_line::{complain, complain_of_text};
 use vm_sim::{Sink, Source, Watched, read_text};
+use vm_words::{DONE, Request};
 
 // Does what was asked for, and gives the status to end with.
 fn run_on<RT: Threads + Sync, R: Source, W: Sink>(
     rt: &RT,
     system: &(impl Eprint + AllocGlobal),
-    request: &Request,
+    request: &Request<'_>,
     reader: &mut R,
     writer: &mut W,
 ) -> u8
-    requires { (1 ≤ request.now.workers) × (request.now.workers ≤ 64) }
+    requires { HasWorkersInRange request.now }
     ensures done { result ≡ 0 → RunsConfig (R.remaining reader.old) (R.remaining reader.new)
-        (λ config. Writes (W.contents writer.old) (W.contents writer.new) request.now.has_flag (rows_of config)) }
+        (λ config. Writes (W.contents writer.old) (W.contents writer.new) (has_flag (codes "svg") request.now) (rows_of config)) }
     ensures refused { result ≡ 1 → IsRefused (R.remaining reader.old) (R.remaining reader.new) }
     ensures silent { result ≡ 1 → Keeps (W.contents writer.old) (W.contents writer.new) }
     ensures taken { result ≢ 2 }
     ensures stopped { result ≡ 3 → StopsEarly (R.remaining reader.old) (R.remaining reader.new)
-        (W.contents writer.old) (W.contents writer.new) request.now.has_flag }
+        (W.contents writer.old) (W.contents writer.new) (has_flag (codes "svg") request.now) }
     ensures reader_failed { NewlyFailed (R.has_failed reader.old) (R.has_failed reader.new) → result ≡ 3 }
     ensures writer_failed { NewlyFailed (W.has_failed writer.old) (W.has_failed writer.new) → result ≡ 3 }
     ensures known { result ≤ 3 }
 {
     let text = match read_text(system.alloc(), reader) {
         Ok(text) => text,
-        Err(error) => return LINE.complain(system, error),
+        Err(error) => return complain(&LINE, system, error),
     };
     match write_run(rt, system.alloc(), request, &text, writer) {
         Ok(()) => DONE,
-        Err(error) => complain(system, &text, error),
+        Err(error) => complain_of_text(&LINE, system, &text, error),
     }
 }
 

@@ -1,16 +1,20 @@
 //! From the text of a configuration to the text of its series.
-ghost use Rattle.std.specs.Prelude.{◌≡◌, ◌≤◌, Err, IfErr, IfOk, OnOk};
+ghost use Rattle.std.specs.Prelude.{◌≡◌, Err, IfErr, IfOk, OnOk, codes};
+ghost use Rattle.vm_command_line.specs.Words.{HasWorkersInRange};
 ghost use Rattle.vm_series.specs.Rows.{rows_of};
 ghost use Rattle.vm_series_program.specs.Written.{FailsOnSeries, IsTextOf, Writes};
 ghost use Rattle.vm_sim.specs.declared.run_error.RunError.TheVariants.{Write};
 ghost use Rattle.vm_sim.specs.Run.{MeansConfig, NewlyFailed};
+ghost use Rattle.vm_words.specs.Words.{has_flag};
 
+use crate::line::SVG;
 use std::alloc::{AllocError, Global};
 use std::thread::Threads;
 use vm_charts::svg_text;
-use vm_command_line::Request;
+use vm_command_line::workers_of;
 use vm_series::{Series, collect_series, csv_text};
 use vm_sim::{Open, RunError, Sink, write_text};
+use vm_words::Request;
 
 // A series as a drawing, or as comma-separated values.
 fn text_of(alloc: Global, series: &Series, is_drawn: bool) -> Result<Vec<u8>, AllocError>
@@ -27,18 +31,19 @@ fn text_of(alloc: Global, series: &Series, is_drawn: bool) -> Result<Vec<u8>, Al
 pub fn write_run<RT: Threads + Sync, W: Sink>(
     rt: &RT,
     alloc: Global,
-    request: &Request,
+    request: &Request<'_>,
     text: &[u8],
     writer: &mut W,
 ) -> Result<(), RunError>
-    requires { (1 ≤ request.now.workers) × (request.now.workers ≤ 64) }
+    requires { HasWorkersInRange request.now }
     ensures done { OnOk result (MeansConfig (λ config. Writes (W.contents writer.old) (W.contents writer.new)
-        request.now.has_flag (rows_of config)) text.now) }
-    ensures failed { IfErr result (FailsOnSeries (W.contents writer.old) (W.contents writer.new) request.now.has_flag text.now) }
+        (has_flag (codes "svg") request.now) (rows_of config)) text.now) }
+    ensures failed { IfErr result (FailsOnSeries (W.contents writer.old) (W.contents writer.new)
+        (has_flag (codes "svg") request.now) text.now) }
     ensures writer_failed { NewlyFailed (W.has_failed writer.old) (W.has_failed writer.new) → result ≡ Err Write }
 {
-    let series = collect_series(rt, alloc, &Open, request.workers, text)?;
-    let written = text_of(alloc, &series, request.has_flag)?;
+    let series = collect_series(rt, alloc, &Open, workers_of(request), text)?;
+    let written = text_of(alloc, &series, request.has_flag(SVG.name))?;
     write_text(writer, written.as_slice())?;
     Ok(())
 }

@@ -1,3 +1,5 @@
-pub mod SumLemmas
-pub mod NextLemmas
-pub mod FirstLemmas
+pub mod DrawnLemmas
+pub mod RoundLemmas
+pub mod SpreadLemmas
+pub mod TableLemmas
+pub mod WrittenLemmas

@@ -1,29 +1,31 @@
--- The values of a run, and the configurations that they make.
-use Rattle.std.specs.Prelude.{ℕ}
-use Rattle.vm_config.specs.declared.config.Config.{Config}
+-- The combinations of lists of values.
+use Rattle.std.specs.Prelude.{ℕ, List, [], ◌∷◌, map, Option, Some, None, All, IfSome}
+use Rattle.std.specs.List.{flat_map}
+use Rattle.vm_config.specs.declared.settings.Setting.{Setting}
 use Rattle.vm_config.specs.declared.settings.Setting.TheVariants.{Frames, Swap, Tax, PageRate}
-use Rattle.vm_config.specs.Settings.{with_setting, IsInRange}
+use Rattle.vm_config.specs.Settings.{IsInRange}
+use Rattle.vm_tally.specs.Combinations.{Values, with_value}
 
--- values for the four settings of a machine
-pub record Values : Type 0 where
-  pub frames : ℕ
-  pub swap : ℕ
-  -- in hundredths of a percent
-  pub tax : ℕ
-  pub page_rate : ℕ
+-- lists of values for the four settings; one without a list keeps its own value
+pub record ValueLists : Type 0 where
+  pub frames : Option (List ℕ)
+  pub swap : Option (List ℕ)
+  pub tax : Option (List ℕ)
+  pub page_rate : Option (List ℕ)
 
--- each is one that its setting may have
-pub record AreInRange (v : Values) : Type 0 where
-  pub frames : IsInRange Frames v.frames
-  pub swap : IsInRange Swap v.swap
-  pub tax : IsInRange Tax v.tax
-  pub page_rate : IsInRange PageRate v.page_rate
+-- each of them is one that its setting may have
+pub record HoldInRange (lists : ValueLists) : Type 0 where
+  pub frames : IfSome lists.frames (All (IsInRange Frames))
+  pub swap : IfSome lists.swap (All (IsInRange Swap))
+  pub tax : IfSome lists.tax (All (IsInRange Tax))
+  pub page_rate : IfSome lists.page_rate (All (IsInRange PageRate))
 
--- a configuration with these values in the place of its own
-abbrev pub configured : Values → Config → Config
-configured v c =
-    with_setting PageRate v.page_rate (with_setting Tax v.tax (with_setting Swap v.swap (with_setting Frames v.frames c)))
+-- each combination with each value of a list for the setting, in order
+abbrev pub spread : Setting → Option (List ℕ) → List Values → List Values
+spread setting None combinations = combinations
+spread setting (Some values) combinations = flat_map (λ v. map (λ n. with_value setting n v) values) combinations
 
--- the values that a configuration has
-abbrev pub values_of : Config → Values
-values_of c = record { frames = c.machine.frames; swap = c.machine.swap; tax = c.machine.tax; page_rate = c.machine.page_rate }
+-- all combinations, as four loops have them: frames outermost, then swap, tax and page rate
+unfoldable pub combinations : ValueLists → (own : Values) → List Values
+combinations lists own =
+    spread PageRate lists.page_rate (spread Tax lists.tax (spread Swap lists.swap (spread Frames lists.frames (own ∷ []))))

@@ -1,6 +1,6 @@
-pub mod Counting
-pub mod Counts
-pub mod Summary
-pub mod Tally
 pub mod Combinations
+pub mod Drawn
+pub mod Orders
+pub mod Rounds
 pub mod Table
+pub mod Written

@@ -1,43 +1,21 @@
--- The table of a sweep, as comma-separated values (RFC 4180): a header, and a record for each run.
-use Rattle.std.specs.Prelude.{ℕ, Bool, true, false, List, [], ◌∷◌, ◌++◌, codes, map}
-use Rattle.std.specs.Fmt.{decimal}
-use Rattle.std.specs.List.{flat_map}
-use Rattle.vm_lists.specs.declared.bounds.Unit.TheVariants.{Hundredths}
-use Rattle.vm_lists.specs.Shown.{shown}
-use Rattle.vm_sweep.specs.Combinations.{Values}
-use Rattle.vm_sweep.specs.declared.summary.Summary.{Summary}
-use Rattle.vm_sweep.specs.Summary.{fits}
+-- The table of a sweep, as comma-separated values (RFC 4180).
+use Rattle.std.specs.Prelude.{ℕ, List, ◌∷◌, map}
+use Rattle.std.specs.List.{concat}
+use Rattle.vm_config.specs.declared.config.Config.{Config}
+use Rattle.vm_tally.specs.Combinations.{configured, values_of}
+use Rattle.vm_tally.specs.Summary.{summary_of}
+use Rattle.vm_tally.specs.Table.{header, record_text}
+use Rattle.vm_sweep.specs.Combinations.{ValueLists, combinations}
+use Rattle.vm_sweep.specs.Orders.{Order, order_of}
 
--- a field behind the first one
-abbrev pub field : List ℕ → List ℕ
-field text = codes "," ++ text
+-- the record of a run that is wanted
+abbrev pub record_of : Order → List ℕ
+record_of order = record_text order.values (summary_of (configured order.values order.base))
 
--- the end of a record
-abbrev pub end_of_record : List ℕ
-end_of_record = 13 ∷ 10 ∷ []
+-- the header, and a record for each combination, in order
+abbrev pub rows_of : ValueLists → Config → List (List ℕ)
+rows_of lists config =
+    header ∷ map record_of (map (order_of config) (combinations lists (values_of config)))
 
-unfoldable pub header : List ℕ
-header =
-    codes "frames,swap,tax,page_rate,high,soft,hard,low,least_free,no_memory,no_swap,revoked,paged,evicted,granted,blocked,stalls,done,left,most_swapped,swapped,balloon,fits"
-    ++ end_of_record
-
--- the tax is told in percent
-unfoldable pub combination_text : Values → List ℕ
-combination_text c = decimal c.frames ++ (field (decimal c.swap) ++ (field (shown Hundredths c.tax) ++ field (decimal c.page_rate)))
-
-abbrev pub numbers_of : Summary → List ℕ
-numbers_of s =
-    s.high ∷ s.soft ∷ s.hard ∷ s.low ∷ s.least_free ∷ s.no_memory ∷ s.no_swap ∷ s.revoked ∷ s.paged ∷ s.evicted ∷ s.granted ∷ s.blocked
-    ∷ s.stalls ∷ s.done ∷ s.left ∷ s.most_swapped ∷ s.swapped ∷ s.balloon ∷ []
-
-abbrev pub yes_or_no : Bool → List ℕ
-yes_or_no true = codes "yes"
-yes_or_no false = codes "no"
-
-abbrev pub number_field : ℕ → List ℕ
-number_field number = field (decimal number)
-
--- the record of a run
-unfoldable pub record_text : Values → Summary → List ℕ
-record_text c s =
-    combination_text c ++ (flat_map number_field (numbers_of s) ++ (field (yes_or_no (fits s)) ++ end_of_record))
+abbrev pub table_of : ValueLists → Config → List ℕ
+table_of lists config = concat (rows_of lists config)

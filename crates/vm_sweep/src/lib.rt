@@ -1,18 +1,19 @@
 //! One configuration under many machines and policies.
 //!
-//! A [`Summary`] tells a run in numbers, in the words of its report: `specs/Summary.antt` says what each is, over the course of the
-//! run. [`run_alone`] runs a configuration to its end so. [`header_text`] and [`record_text`] write them as a table.
+//! [`sweep`] runs the configuration of a text once for each combination of [`Lists`] of values, on threads, and writes a table with
+//! a record for each: `specs/Table.antt` says what it is, over `vm_tally`, which tells a run in numbers. A thread has a copy of the
+//! configuration, and one host at a time; inside a run it serves the guests in order, so the table is the same for any number of
+//! threads. [`draw_sweep`] does the same runs and draws them, by `vm_sweep_charts`: `specs/Drawn.antt` says what of each is drawn.
 #![tactic(auto)]
 
-mod combination;
-mod guest_counts;
-mod line_counts;
-mod running;
-mod summary;
-mod table;
-mod tally;
+mod drawing;
+mod job;
+mod lists;
+mod progress;
+mod rounds;
+mod sweeping;
 
-pub use combination::Combination;
-pub use running::run_alone;
-pub use summary::Summary;
-pub use table::{header_text, record_text};
+pub use drawing::draw_sweep;
+pub use lists::Lists;
+pub use progress::Progress;
+pub use sweeping::sweep;

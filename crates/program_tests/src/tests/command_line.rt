@@ -1,24 +1,36 @@
 // What words ask for, exit statuses, and what is said on standard error.
+ghost use Rattle.std.specs.Prelude.{◌≡◌, ◌∷◌, []};
+ghost use Rattle.vm_command_line.specs.Words.{HasWorkersInRange, workers_rule};
+ghost use Rattle.vm_words.specs.Words.{line_of};
+
 use super::system::{assert_has_spoken, assert_said, assert_status, with_words};
 use std::alloc::{AllocError, Global};
 use std::process::Abort;
 use std::test::Fail;
-use vm_command_line::{CommandLine, Flag, Request};
+use vm_command_line::{WORKERS, complain, workers_of};
 use vm_sim::{ConfigError, RunError};
+use vm_words::{CommandLine, Flag, Request};
+
+const SVG: Flag = Flag {
+    name: "svg",
+    help: "Write a drawing",
+    beside: None,
+};
 
 const PLAIN: CommandLine = CommandLine {
     program: "plain",
-    output: "REPORT",
-    flag: None,
+    takes: "CONFIGURATION",
+    gives: "REPORT",
+    flags: &[],
+    values: &[WORKERS],
 };
 
 const FLAGGED: CommandLine = CommandLine {
     program: "flagged",
-    output: "SERIES",
-    flag: Some(Flag {
-        name: "svg",
-        help: "Write a drawing",
-    }),
+    takes: "CONFIGURATION",
+    gives: "SERIES",
+    flags: &[SVG],
+    values: &[WORKERS],
 };
 
 fn texts(alloc: Global, words: &[&str]) -> Result<Vec<String>, AllocError> {
@@ -29,39 +41,52 @@ fn texts(alloc: Global, words: &[&str]) -> Result<Vec<String>, AllocError> {
     Ok(texts)
 }
 
-fn asked(workers: u32, has_flag: bool) -> Option<Request> {
-    Some(Request { workers, has_flag })
+// How many workers are asked for, and whether the flag is given.
+fn asked(request: &Request<'_>) -> (u32, bool)
+    requires { HasWorkersInRange request.now }
+{
+    (workers_of(request), request.has_flag(SVG.name))
 }
 
-// Asserts what words ask for. Something is said exactly where they are refused.
+// Asserts what words ask for: how many workers, and whether the flag is given. Something is said exactly where they are refused.
 fn assert_request(
     rt: &(impl AllocGlobal + Abort),
     line: &CommandLine,
     words: &[&str],
-    wanted: Option<Request>,
-) -> Result<(), Fail> {
+    wanted: Option<(u32, bool)>,
+) -> Result<(), Fail>
+    requires { (line_of line.now).values ≡ workers_rule ∷ [] }
+{
     let texts = texts(rt.alloc(), words)?;
     let system = with_words(rt.alloc(), words);
-    let request = line.request(&system, texts.as_slice()).ok();
-    assert_eq!(rt; request, wanted);
+    let found = match line.request(&system, texts.as_slice()) {
+        Ok(request) => Some(asked(&request)),
+        Err(_) => None,
+    };
+    assert_eq!(rt; found, wanted);
     assert_has_spoken(rt, system, wanted.is_none());
     Ok(())
 }
 
 #[test]
 fn words_ask_for_workers(rt: HostRuntime) -> Result<(), Fail> {
-    assert_request(&rt, &PLAIN, &["plain"], asked(1, false))?;
-    assert_request(&rt, &PLAIN, &["plain", "--workers", "64"], asked(64, false))?;
+    assert_request(&rt, &PLAIN, &["plain"], Some((1, false)))?;
+    assert_request(
+        &rt,
+        &PLAIN,
+        &["plain", "--workers", "64"],
+        Some((64, false)),
+    )?;
     assert_request(&rt, &PLAIN, &["plain", "--svg"], None)?;
     assert_request(&rt, &PLAIN, &["plain", "--workers=65"], None)
 }
 
 #[test]
 fn words_ask_for_a_flag(rt: HostRuntime) -> Result<(), Fail> {
-    assert_request(&rt, &FLAGGED, &["flagged"], asked(1, false))?;
-    assert_request(&rt, &FLAGGED, &["flagged", "--svg"], asked(1, true))?;
+    assert_request(&rt, &FLAGGED, &["flagged"], Some((1, false)))?;
+    assert_request(&rt, &FLAGGED, &["flagged", "--svg"], Some((1, true)))?;
     let both = &["flagged", "--workers", "2", "--svg"];
-    assert_request(&rt, &FLAGGED, both, asked(2, true))?;
+    assert_request(&rt, &FLAGGED, both, Some((2, true)))?;
     assert_request(&rt, &FLAGGED, &["flagged", "--svg", "--svg"], None)?;
     assert_request(&rt, &FLAGGED, &["flagged", "--help"], None)
 }
@@ -75,7 +100,7 @@ fn assert_told(
     said: &str,
 ) {
     let system = with_words(rt.alloc(), &[]);
-    assert_status(rt, line.complain(&system, error), status);
+    assert_status(rt, complain(line, &system, error), status);
     assert_said(rt, system, said);
 }
 

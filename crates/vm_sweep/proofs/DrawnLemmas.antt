@@ -1,0 +1,40 @@
+-- The runs that are drawn, and how many curves they make.
+use Rattle.std.proofs.Common.{◌≡◌, ◌∙◌, ◌<◌, ◌^◌, ℕ, List, ◌++◌, ap, append_assoc, arith, inl, inr, length, map, refl, sym}
+use Rattle.std.proofs.Math.Nat.{div-eq_of_lt}
+use Rattle.std.proofs.lemmas.Bool.{cases_lt}
+use Rattle.std.proofs.lemmas.List.{map-append, take_all}
+use Rattle.vm_config.specs.declared.config.Config.{Config}
+use Rattle.vm_drawing.specs.Picture.{svg_of}
+use Rattle.vm_guest.specs.Record.{saturated}
+use Rattle.vm_sweep.specs.Combinations.{ValueLists}
+use Rattle.vm_sweep.specs.Drawn.{curves_of, drawing_of, runs_of}
+use Rattle.vm_sweep_charts.specs.SweepDrawing.{sweep_drawing}
+use Rattle.vm_sweep_charts.specs.declared.runs.SweptRun.{SweptRun}
+
+-- the runs of a round come behind those before it
+pub more-runs : {X Y : Type 0} (f : X → Y) (before done after : List X) (old new whole : List Y) → before ≡ done ++ after
+    → new ≡ old ++ map f done → old ++ map f before ≡ whole → new ++ map f after ≡ whole
+more-runs f before done after old new whole at is so_far =
+    ap (λ ys. ys ++ map f after) is ∙ append_assoc old (map f done) (map f after)
+    ∙ ap (λ ys. old ++ ys) (sym (ap (map f) at ∙ map-append f done after)) ∙ so_far
+
+-- where there are more curves than runs no machine has a run for each, so it doesn't matter how many curves there are
+few-runs : (runs : List SweptRun) (n m : ℕ) → length runs < n → length runs < m → sweep_drawing runs n ≡ sweep_drawing runs m
+few-runs runs n m few_n few_m =
+    rw (div-eq_of_lt few_n) (rw (div-eq_of_lt few_m) (rw (take_all n runs (omega (arith, few_n))) (rw (take_all m runs (omega (arith, few_m))) refl)))
+
+-- curves may be counted up to the greatest number of 64 bits
+same-drawing : (runs : List SweptRun) (n : ℕ) → length runs < 2 ^ 63 → sweep_drawing runs (saturated n) ≡ sweep_drawing runs n
+same-drawing runs n few =
+    elim (cases_lt n (2 ^ 64)) [
+      | inl below ↦ ap (sweep_drawing runs) (omega (arith, below))
+      | inr above ↦ few-runs runs (saturated n) n (omega (arith, above, few)) (omega (arith, above, few))
+    ]
+
+-- the drawing of all runs
+pub drawn-all : (lists : ValueLists) (config : Config) (runs : List SweptRun) (curves : ℕ) → runs ≡ runs_of lists config
+    → curves ≡ saturated (curves_of lists) → length runs < 2 ^ 63 → svg_of (sweep_drawing runs curves) ≡ drawing_of lists config
+unfolding drawing_of
+drawn-all lists config runs curves are is few =
+    ap (λ (n : ℕ). svg_of (sweep_drawing runs n)) is ∙ ap svg_of (same-drawing runs (curves_of lists) few)
+    ∙ ap (λ (all : List SweptRun). svg_of (sweep_drawing all (curves_of lists))) are

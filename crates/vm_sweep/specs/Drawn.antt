@@ -1,0 +1,59 @@
+-- The drawing of a sweep, and what a sweep that is drawn, or isn't, has written.
+use Rattle.std.specs.Prelude.{◌≡◌, ℕ, ◌+◌, ◌*◌, List, length, map, Option, None, Some, Err}
+use Rattle.std.specs.Io.KnownBytes.{Keeps}
+use Rattle.vm_config.specs.declared.config.Config.{Config as Configuration}
+use Rattle.vm_config.specs.Reading.{config_of}
+use Rattle.vm_drawing.specs.Picture.{svg_of}
+use Rattle.vm_guest.specs.Record.{saturated}
+use Rattle.vm_sim.specs.declared.run_error.RunError.{RunError}
+use Rattle.vm_sim.specs.declared.run_error.RunError.TheVariants.{Config, Read, Write, Memory, Workers}
+use Rattle.vm_sim.specs.Run.{MeansConfig}
+use Rattle.vm_streams.specs.Streams.{AppendsFront}
+use Rattle.vm_sweep.specs.Combinations.{ValueLists, combinations}
+use Rattle.vm_sweep.specs.Orders.{Order, order_of}
+use Rattle.vm_sweep_charts.specs.SweepDrawing.{sweep_drawing}
+use Rattle.vm_sweep_charts.specs.declared.runs.SweptRun.{SweptRun}
+use Rattle.vm_tally.specs.Combinations.{Values, configured, values_of}
+use Rattle.vm_tally.specs.Summary.{summary_of}
+use Rattle.vm_tally.specs.declared.summary.Summary.{Summary}
+
+-- what is drawn of a run with these values; a sum stops at the greatest number of 64 bits
+abbrev pub swept_run : Values → Summary → SweptRun
+swept_run values summary = record {
+  frames = values.frames;
+  swap = values.swap;
+  tax = values.tax;
+  page_rate = values.page_rate;
+  moved = saturated (summary.paged + summary.evicted);
+  waited = saturated (summary.blocked + summary.stalls);
+}
+
+-- what is drawn of a run that is wanted
+abbrev pub swept_of : Order → SweptRun
+swept_of order = swept_run order.values (summary_of (configured order.values order.base))
+
+-- how many values a setting has in turn: one without a list keeps its own
+abbrev pub value_count : Option (List ℕ) → ℕ
+value_count None = 1
+value_count (Some values) = length values
+
+-- how many combinations of swap, tax and page rate there are: the drawing has a curve for each
+abbrev pub curves_of : ValueLists → ℕ
+curves_of lists = value_count lists.swap * value_count lists.tax * value_count lists.page_rate
+
+-- the runs of all combinations, in order
+abbrev pub runs_of : ValueLists → Configuration → List SweptRun
+runs_of lists config = map swept_of (map (order_of config) (combinations lists (values_of config)))
+
+-- the drawing of the sweep of a configuration
+unfoldable pub drawing_of : ValueLists → Configuration → List ℕ
+drawing_of lists config = svg_of (sweep_drawing (runs_of lists config) (curves_of lists))
+
+module _ (old new : Option (List ℕ)) where
+  -- why there is no drawing, or not all of it, and what was written by then
+  abbrev pub FailsOnDrawing : ValueLists → List ℕ → RunError → Type 0
+  FailsOnDrawing lists text Workers = ⊥
+  FailsOnDrawing lists text Read = ⊥
+  FailsOnDrawing lists text (Config fault) = Keeps old new × (config_of text ≡ Err fault)
+  FailsOnDrawing lists text Write = MeansConfig (λ config. AppendsFront old new (drawing_of lists config)) text
+  FailsOnDrawing lists text Memory = Keeps old new

@@ -1,0 +1,122 @@
+//! A sweep as a drawing: what a host pages and whom it lets wait on each machine.
+ghost use Rattle.std.specs.Prelude.{◌≡◌, ◌<◌, ◌≤◌, ◌++◌, Err, IfErr, IfOk, IfSome, OnOk, length, map, vec_len};
+ghost use Rattle.std.specs.Io.KnownBytes.{Appends};
+ghost use Rattle.std.specs.Vec.Iter.{into_iter_items, into_iter_len};
+ghost use Rattle.vm_sim.specs.declared.run_error.RunError.TheVariants.{Write};
+ghost use Rattle.vm_sim.specs.Run.{MeansConfig, NewlyFailed};
+ghost use Rattle.vm_sweep.specs.Drawn.{FailsOnDrawing, drawing_of, swept_of};
+ghost use Rattle.vm_sweep.specs.Rounds.{IsUnderWay};
+
+use crate::job::{RunDone, RunJob, Workplace};
+use crate::lists::Lists;
+use crate::progress::Progress;
+use crate::rounds::{prepare, run_next};
+use std::alloc::{AllocError, Global};
+use std::thread::Threads;
+use std::vec::IntoIter;
+use vm_config::{Config, read_config};
+use vm_sim::RunError;
+use vm_streams::{Sink, write_text};
+use vm_sweep_charts::{SweptRun, sweep_svg};
+
+// What is drawn of a run, if memory lasted for it.
+fn swept_of(done: &RunDone) -> Option<SweptRun>
+    ensures { IfSome result (λ run. run ≡ swept_of done.now) }
+{
+    let values = done.combination();
+    let summary = done.outcome()?;
+    Some(SweptRun {
+        frames: values.frames,
+        swap: values.swap,
+        tax: values.tax,
+        page_rate: values.page_rate,
+        moved: summary.paged.saturating_add(summary.evicted),
+        waited: summary.blocked.saturating_add(summary.stalls),
+    })
+}
+
+// Keeps what is drawn of runs behind what there is.
+fn keep_runs(done: &[RunDone], runs: &mut Vec<SweptRun>) -> Result<(), AllocError>
+    ensures { OnOk result (runs.new.items ≡ runs.old.items ++ map swept_of done.now) }
+{
+    for one in done {
+        let Some(run) = swept_of(one) else {
+            return Err(AllocError);
+        };
+        runs.push(run)?;
+    }
+    Ok(())
+}
+
+// Runs what is left, round by round, and keeps what is drawn of each run.
+fn run_all<RT: Threads + Sync, P: Progress>(
+    rt: &RT,
+    alloc: Global,
+    mut left: IntoIter<RunJob>,
+    places: &mut Vec<Workplace>,
+    progress: &P,
+) -> Result<Vec<SweptRun>, AllocError>
+    requires places { (0 < vec_len places.old) × (vec_len places.old ≤ 64) }
+    requires counted { into_iter_len left ≡ length (into_iter_items left) }
+    requires under_way { IsUnderWay (into_iter_items left) places.old.items }
+    ensures { IfOk result (λ runs. runs.items ≡ map swept_of (into_iter_items left)) }
+{
+    let all = left.len();
+    let mut runs = Vec::new(alloc);
+    while left.len() > 0 {
+        let done = run_next(rt, alloc, &mut left, places)?;
+        keep_runs(&done, &mut runs)?;
+        progress.report(all.saturating_sub(left.len()), all);
+    }
+    Ok(runs)
+}
+
+// The drawing of a configuration.
+fn drawing_of<RT: Threads + Sync, P: Progress>(
+    rt: &RT,
+    alloc: Global,
+    config: Config,
+    lists: &Lists,
+    workers: u32,
+    progress: &P,
+) -> Result<Vec<u8>, AllocError>
+    requires { (0 < workers) × (workers ≤ 64) }
+    ensures { IfOk result (λ drawing. drawing.items ≡ drawing_of lists.now config) }
+{
+    let (jobs, mut places) = prepare(alloc, config, lists, workers)?;
+    let runs = run_all(rt, alloc, jobs.into_iter(), &mut places, progress)?;
+    sweep_svg(alloc, &runs, lists.curve_count())
+}
+
+/// Runs the configuration that a text is once for each combination of values, as [`sweep`](crate::sweep) does, and draws the sweep as
+/// [`sweep_svg`] draws it: what a host pages and whom it lets wait on each machine, with a curve for each combination of swap, tax
+/// and page rate.
+///
+/// Nothing is written before the last run has ended; `progress` is told after each round. The drawing is the same for any number of
+/// workers.
+///
+/// | Answer | Cause | What was written |
+/// |---|---|---|
+/// | [`RunError::Config`] | the text is no configuration | nothing |
+/// | [`RunError::Write`] | a write failed | a front of the drawing |
+/// | [`RunError::Memory`] | memory was refused | nothing |
+pub fn draw_sweep<RT: Threads + Sync, W: Sink, P: Progress>(
+    rt: &RT,
+    alloc: Global,
+    text: &[u8],
+    lists: &Lists,
+    workers: u32,
+    progress: &P,
+    writer: &mut W,
+) -> Result<(), RunError>
+    requires { (0 < workers) × (workers ≤ 64) }
+    ensures done { OnOk result (MeansConfig (λ config. Appends (W.contents writer.old) (W.contents writer.new)
+        (drawing_of lists.now config)) text.now) }
+    ensures failed { IfErr result (FailsOnDrawing (W.contents writer.old) (W.contents writer.new) lists.now text.now) }
+    ensures writer_failed { NewlyFailed (W.has_failed writer.old) (W.has_failed writer.new) → result ≡ Err Write }
+{
+    let config = read_config(alloc, text)?;
+    let drawing = drawing_of(rt, alloc, config, lists, workers, progress)?;
+    write_text(writer, &drawing)?;
+    Ok(())
+}

@@ -1,0 +1,143 @@
+//! A sweep: one configuration under each combination of lists of values, as a table.
+ghost use Rattle.std.specs.Prelude.{◌≡◌, ◌<◌, ◌≤◌, ◌∷◌, [], Err, IfErr, OnErr, OnOk, length, map, true, vec_len};
+ghost use Rattle.std.specs.List.{concat};
+ghost use Rattle.std.specs.Io.KnownBytes.{Appends};
+ghost use Rattle.std.specs.Vec.Iter.{into_iter_items, into_iter_len};
+ghost use Rattle.vm_sim.specs.declared.run_error.RunError.TheVariants.{Write};
+ghost use Rattle.vm_sim.specs.Run.{CutShort, MeansConfig, NewlyFailed};
+ghost use Rattle.vm_streams.specs.Streams.{AppendsFront};
+ghost use Rattle.vm_sweep.specs.Rounds.{IsUnderWay};
+ghost use Rattle.vm_sweep.specs.Table.{record_of, rows_of, table_of};
+ghost use Rattle.vm_sweep.specs.Written.{FailsOnTable, FailsWithin};
+ghost use Rattle.vm_tally.specs.Table.{header};
+
+use crate::job::{RunDone, RunJob, Workplace};
+use crate::lists::Lists;
+use crate::progress::Progress;
+use crate::rounds::{prepare, run_next};
+use std::alloc::Global;
+use std::thread::Threads;
+use std::vec::IntoIter;
+use vm_config::{Config, read_config};
+use vm_sim::RunError;
+use vm_streams::{Sink, write_text};
+use vm_tally::{header_text, record_text};
+
+// Writes the header.
+fn write_header<W: Sink>(writer: &mut W) -> Result<(), RunError>
+    ensures done { OnOk result (Appends (W.contents writer.old) (W.contents writer.new) header) }
+    ensures front { OnErr result (AppendsFront (W.contents writer.old) (W.contents writer.new) header) }
+    ensures stays { OnOk result (W.has_failed writer.new ≡ W.has_failed writer.old) }
+    ensures failed { IfErr result (λ error. (error ≡ Write) × (W.has_failed writer.new ≡ true)) }
+{
+    write_text(writer, header_text().as_bytes())?;
+    Ok(())
+}
+
+// Writes the record of a run, if memory lasted for it.
+fn write_record<W: Sink>(alloc: Global, done: &RunDone, writer: &mut W) -> Result<(), RunError>
+    ensures done { OnOk result (Appends (W.contents writer.old) (W.contents writer.new) (record_of done.now)) }
+    ensures failed { IfErr result (FailsWithin (W.contents writer.old) (W.contents writer.new) (record_of done.now ∷ [])) }
+    ensures stays { OnOk result (W.has_failed writer.new ≡ W.has_failed writer.old) }
+    ensures cause { IfErr result (CutShort (W.has_failed writer.old) (W.has_failed writer.new)) }
+{
+    let Some(summary) = done.outcome() else {
+        return Err(RunError::Memory);
+    };
+    let text = record_text(alloc, &done.combination(), &summary)?;
+    write_text(writer, text.as_bytes())?;
+    Ok(())
+}
+
+// Writes the records of runs, up to the first that lacked memory.
+fn write_records<W: Sink>(alloc: Global, done: &[RunDone], writer: &mut W) -> Result<(), RunError>
+    ensures done { OnOk result (Appends (W.contents writer.old) (W.contents writer.new) (concat (map record_of done.now))) }
+    ensures failed { IfErr result (FailsWithin (W.contents writer.old) (W.contents writer.new) (map record_of done.now)) }
+    ensures stays { OnOk result (W.has_failed writer.new ≡ W.has_failed writer.old) }
+    ensures cause { IfErr result (CutShort (W.has_failed writer.old) (W.has_failed writer.new)) }
+{
+    for one in done {
+        write_record(alloc, one, writer)?;
+    }
+    Ok(())
+}
+
+// Runs what is left, round by round, and writes the records of each before the next.
+fn write_runs<RT: Threads + Sync, W: Sink, P: Progress>(
+    rt: &RT,
+    alloc: Global,
+    mut left: IntoIter<RunJob>,
+    places: &mut Vec<Workplace>,
+    progress: &P,
+    writer: &mut W,
+) -> Result<(), RunError>
+    requires places { (0 < vec_len places.old) × (vec_len places.old ≤ 64) }
+    requires counted { into_iter_len left ≡ length (into_iter_items left) }
+    requires under_way { IsUnderWay (into_iter_items left) places.old.items }
+    ensures done { OnOk result (Appends (W.contents writer.old) (W.contents writer.new)
+        (concat (map record_of (into_iter_items left)))) }
+    ensures failed { IfErr result (FailsWithin (W.contents writer.old) (W.contents writer.new)
+        (map record_of (into_iter_items left))) }
+    ensures stays { OnOk result (W.has_failed writer.new ≡ W.has_failed writer.old) }
+    ensures cause { IfErr result (CutShort (W.has_failed writer.old) (W.has_failed writer.new)) }
+{
+    let all = left.len();
+    while left.len() > 0 {
+        let done = run_next(rt, alloc, &mut left, places)?;
+        write_records(alloc, &done, writer)?;
+        progress.report(all.saturating_sub(left.len()), all);
+    }
+    Ok(())
+}
+
+// The table of a configuration.
+fn write_table<RT: Threads + Sync, W: Sink, P: Progress>(
+    rt: &RT,
+    alloc: Global,
+    config: Config,
+    lists: &Lists,
+    workers: u32,
+    progress: &P,
+    writer: &mut W,
+) -> Result<(), RunError>
+    requires { (0 < workers) × (workers ≤ 64) }
+    ensures done { OnOk result (Appends (W.contents writer.old) (W.contents writer.new) (table_of lists.now config)) }
+    ensures failed { IfErr result (FailsWithin (W.contents writer.old) (W.contents writer.new) (rows_of lists.now config)) }
+    ensures stays { OnOk result (W.has_failed writer.new ≡ W.has_failed writer.old) }
+    ensures cause { IfErr result (CutShort (W.has_failed writer.old) (W.has_failed writer.new)) }
+{
+    write_header(writer)?;
+    let (jobs, mut places) = prepare(alloc, config, lists, workers)?;
+    write_runs(rt, alloc, jobs.into_iter(), &mut places, progress, writer)
+}
+
+/// Runs the configuration that a text is once for each combination of values, on at most `workers` threads, the caller's among them,
+/// and writes a header and a record for each run (RFC 4180), in order.
+///
+/// Inside a run one thread serves the guests in order, so the table is the same for any number of workers. Four runs for each
+/// thread are a round; their records go out before the next one begins, and then `progress` is told. Each thread has a copy of the
+/// configuration, and one host at a time.
+///
+/// | Answer | Cause | What was written |
+/// |---|---|---|
+/// | [`RunError::Config`] | the text is no configuration | nothing |
+/// | [`RunError::Write`] | a write failed | a front of the table |
+/// | [`RunError::Memory`] | memory was refused | the first rows, whole ones, or nothing |
+pub fn sweep<RT: Threads + Sync, W: Sink, P: Progress>(
+    rt: &RT,
+    alloc: Global,
+    text: &[u8],
+    lists: &Lists,
+    workers: u32,
+    progress: &P,
+    writer: &mut W,
+) -> Result<(), RunError>
+    requires { (0 < workers) × (workers ≤ 64) }
+    ensures done { OnOk result (MeansConfig (λ config. Appends (W.contents writer.old) (W.contents writer.new)
+        (table_of lists.now config)) text.now) }
+    ensures failed { IfErr result (FailsOnTable (W.contents writer.old) (W.contents writer.new) lists.now text.now) }
+    ensures writer_failed { NewlyFailed (W.has_failed writer.old) (W.has_failed writer.new) → result ≡ Err Write }
+{
+    let config = read_config(alloc, text)?;
+    write_table(rt, alloc, config, lists, workers, progress, writer)
+}

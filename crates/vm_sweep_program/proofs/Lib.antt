@@ -1,0 +1,2 @@
+mod RangeLemmas
+mod StatusLemmas

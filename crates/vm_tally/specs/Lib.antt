@@ -1,0 +1,10 @@
+pub mod Counting
+pub mod Counts
+pub mod Summary
+pub mod Tally
+pub mod Combinations
+pub mod Table
+pub mod GuestEntries
+pub mod GuestSummary
+pub mod GuestTally
+pub mod GuestTable

@@ -1,0 +1,10 @@
+//! Runs the configuration on standard input once for each combination of listed values, and writes a table with a record for each
+//! run to standard output: `vmsweep [--frames LIST] [--swap LIST] [--tax LIST] [--page-rate LIST] [--progress] [--workers N]`.
+#![tactic(auto)]
+
+use std::process::ExitCode;
+use vm_sweep_program::vmsweep;
+
+fn main(rt: HostRuntime) -> ExitCode {
+    vmsweep(&rt)
+}
