@@ -1,0 +1,9 @@
+pub mod Accesses
+pub mod Examples
+pub mod Lines
+pub mod Logs
+pub mod Numerals
+pub mod Plain
+pub mod Reading
+pub mod Steps
+pub mod Waiting
