@@ -1,3 +1,4 @@
 pub mod Examples
 pub mod Corners
 pub mod Drawn
+pub mod Numbers

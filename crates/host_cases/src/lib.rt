@@ -1,11 +1,14 @@
 //! Whole reports of runs, by computation of their definitions.
 //!
 //! Nothing here runs: each clause of a law is a configuration and the text that its report is. The texts were told by a program that
-//! shares nothing with this repository, so they say that the definitions of a run mean what they should.
+//! shares nothing with this repository, so they say that the definitions of a run mean what they should. [`law_numbers`] has the
+//! numbers of two runs, added up from these texts by hand.
 #![tactic(auto)]
 
 ghost use Rattle.std.specs.Prelude.{◌≡◌};
 ghost use Rattle.vm_sim.specs.Report.{report_of};
+ghost use Rattle.vm_tally.specs.Summary.{summary_of};
+ghost use Rattle.host_cases.specs.Numbers.{both_books_numbers, drawn_20_numbers, numbers_told};
 ghost use Rattle.host_cases.specs.Examples.{early_in_flight, early_in_flight_report, early_use_longer, early_use_longer_report, early_use, early_use_report, first_read, first_read_report, five_guests, five_guests_report, freed_reads_zero, freed_reads_zero_report, low_and_back, low_and_back_report, no_epochs, no_epochs_report, no_guests, no_guests_report, overhead_admitted, overhead_admitted_report, overhead_refused, overhead_refused_report, raised_minimum, raised_minimum_report, raw_inflate, raw_inflate_report, reserves_enough, reserves_enough_report, reserves_lowered, reserves_lowered_report, reserves_short, reserves_short_report, restart, restart_report, sizes, sizes_report, slow_decay, slow_decay_report, stall_on_absent, stall_on_absent_report, statistics_driver, statistics_driver_report, statistics_raw, statistics_raw_report, statistics_repeated, statistics_repeated_report, swap_and_stall, swap_and_stall_report, told_first, told_first_report, too_many_raw, too_many_raw_report, two_in_order, two_in_order_report, version_2, version_2_report};
 ghost use Rattle.host_cases.specs.Corners.{both_books, both_books_report, caps_and_demand, caps_and_demand_report, freed_pages_come_back, freed_pages_come_back_report, least_minimum, least_minimum_report, memtune_books, memtune_books_report, minimum_keeps_demand, minimum_keeps_demand_report, next_best, next_best_report, refusals, refusals_report, restarted_shares, restarted_shares_report, soft_to_low, soft_to_low_report, statistics_of_guest, statistics_of_guest_report, woken_1, woken_1_report, woken_2, woken_2_report, woken_3, woken_3_report};
 ghost use Rattle.host_cases.specs.Drawn.{drawn_01, drawn_01_report, drawn_02, drawn_02_report, drawn_03, drawn_03_report, drawn_04, drawn_04_report, drawn_05, drawn_05_report, drawn_06, drawn_06_report, drawn_07, drawn_07_report, drawn_08, drawn_08_report, drawn_09, drawn_09_report, drawn_10, drawn_10_report, drawn_11, drawn_11_report, drawn_12, drawn_12_report, drawn_13, drawn_13_report, drawn_14, drawn_14_report, drawn_15, drawn_15_report, drawn_16, drawn_16_report, drawn_17, drawn_17_report, drawn_18, drawn_18_report, drawn_19, drawn_19_report, drawn_20, drawn_20_report, drawn_21, drawn_21_report, drawn_22, drawn_22_report, drawn_23, drawn_23_report, drawn_24, drawn_24_report, drawn_25, drawn_25_report, drawn_26, drawn_26_report};
@@ -88,4 +91,11 @@ pub fn law_drawn()
     ensures drawn_24 { report_of drawn_24 ≡ drawn_24_report }
     ensures drawn_25 { report_of drawn_25 ≡ drawn_25_report }
     ensures drawn_26 { report_of drawn_26 ≡ drawn_26_report }
+{}
+
+/// The numbers of two of these runs: with refusals of both books, and with all four states, revocations, paging, grants, a block and a
+/// stall.
+pub fn law_numbers()
+    ensures both_books { numbers_told (summary_of both_books) ≡ both_books_numbers }
+    ensures drawn_20 { numbers_told (summary_of drawn_20) ≡ drawn_20_numbers }
 {}

@@ -1,4 +1,5 @@
 mod lackey;
+mod working_set;
 
 use std::alloc::Global;
 use std::fmt::{Debug, Display};

@@ -35,8 +35,8 @@ fn push_guest(
     guests.end_guest()
 }
 
-// All guests.
-fn push_guests(guests: &mut Text, random: &mut Random, steps: u32) -> Result<(), AllocError> {
+/// All guests of the day.
+pub fn push_guests(guests: &mut Text, random: &mut Random, steps: u32) -> Result<(), AllocError> {
     for number in 0..GUESTS {
         push_guest(guests, random, number, steps)?;
     }

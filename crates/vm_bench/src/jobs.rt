@@ -7,6 +7,7 @@ use crate::fleet::fleet;
 use crate::months::months;
 use crate::policy::policy;
 use crate::series::series;
+use crate::sweep::sweep;
 use std::alloc::Global;
 use std::thread::Threads;
 use vm_sim::RunError;
@@ -21,10 +22,11 @@ pub enum Job {
     Drivers,
     Awkward,
     Series,
+    Sweep,
 }
 
 /// All jobs.
-pub const JOBS: [Job; 7] = [
+pub const JOBS: [Job; 8] = [
     Job::Day,
     Job::Months,
     Job::Fleet,
@@ -32,6 +34,7 @@ pub const JOBS: [Job; 7] = [
     Job::Drivers,
     Job::Awkward,
     Job::Series,
+    Job::Sweep,
 ];
 
 impl Job {
@@ -45,12 +48,14 @@ impl Job {
             Job::Drivers => "drivers",
             Job::Awkward => "awkward",
             Job::Series => "series",
+            Job::Sweep => "sweep",
         }
     }
 
-    /// Whether the word `all` stands for it too. It does not for [`Job::Series`]: `policy` makes the same calls.
+    /// Whether the word `all` stands for it too. It does not for [`Job::Series`], since `policy` makes the same calls, and not for
+    /// [`Job::Sweep`], whose table the stored run of `vmsweep` shows.
     pub fn is_in_all(self) -> bool {
-        !matches!(self, Job::Series)
+        !matches!(self, Job::Series | Job::Sweep)
     }
 
     /// Does it on inputs of this seed, and gives the digest of its results. `part` is how many times smaller the inputs are.
@@ -70,6 +75,7 @@ impl Job {
             Job::Drivers => drivers(rt, alloc, seed, part, &mut digest)?,
             Job::Awkward => awkward(rt, alloc, seed, part, &mut digest)?,
             Job::Series => series(rt, alloc, seed, part, &mut digest)?,
+            Job::Sweep => sweep(rt, alloc, seed, part, &mut digest)?,
         }
         Ok(digest)
     }

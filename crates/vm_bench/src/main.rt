@@ -1,9 +1,10 @@
 //! Does jobs that users of this software wait for, on inputs of its own making, and prints a digest of all their results:
 //! `vm_bench JOB SEED [PART]`.
 //!
-//! JOB is `day`, `months`, `fleet`, `policy`, `drivers`, `awkward`, or `all` of them, or `series`, which `all` leaves out, since
-//! `policy` makes the same calls. Each SEED gives other inputs of the same kind and size, and PART makes them so many times smaller.
-//! A line says the job, how many bytes its results have, and their digest.
+//! JOB is `day`, `months`, `fleet`, `policy`, `drivers`, `awkward`, or `all` of them, or `series` or `sweep`, which `all` leaves out:
+//! `policy` makes the same calls as `series`, and the stored run of `vmsweep` shows the table of a sweep. Each SEED gives other inputs
+//! of the same kind and size, and PART makes them so many times smaller. A line says the job, how many bytes its results have, and
+//! their digest.
 #![tactic(auto)]
 
 mod awkward;
@@ -17,6 +18,7 @@ mod policy;
 mod random;
 mod runs;
 mod series;
+mod sweep;
 mod text;
 
 use crate::jobs::{JOBS, Job};

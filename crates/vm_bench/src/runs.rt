@@ -1,4 +1,6 @@
 //! How a text is run, and its results told.
+ghost use Rattle.std.specs.Prelude.{◌<◌, ◌≤◌};
+
 use crate::digest::Digest;
 use crate::text::{Draft, Machine, Text};
 use std::alloc::Global;
@@ -6,6 +8,7 @@ use std::thread::Threads;
 use vm_charts::svg_text;
 use vm_series::{Series, collect_series, csv_text};
 use vm_sim::{Open, RunError, Watched, run};
+use vm_sweep::{Lists, Progress, sweep};
 
 // The report of a text, put into a digest.
 fn report<RT: Threads + Sync>(
@@ -65,4 +68,36 @@ pub fn series_of<RT: Threads + Sync>(
 ) -> Result<(), RunError> {
     let text = draft.whole(alloc, machine)?;
     series(rt, alloc, &text, digest)
+}
+
+// Is told how far a sweep is, and says nothing.
+struct Silent;
+
+impl Progress for Silent {
+    fn report(&self, _told: usize, _all: usize) {}
+}
+
+/// The table of a draft under lists of values, put into a digest.
+pub fn sweep_of<RT: Threads + Sync>(
+    rt: &RT,
+    alloc: Global,
+    workers: u32,
+    machine: &Machine,
+    draft: &Draft,
+    lists: &Lists,
+    digest: &mut Digest,
+) -> Result<(), RunError>
+    requires { (0 < workers) × (workers ≤ 64) }
+{
+    let text = draft.whole(alloc, machine)?;
+    let mut writer = Watched::new(digest);
+    sweep(
+        rt,
+        alloc,
+        text.as_bytes(),
+        lists,
+        workers,
+        &Silent,
+        &mut writer,
+    )
 }

@@ -1,0 +1,4 @@
+pub mod ReportLines
+pub mod Columns
+pub mod Swapped
+pub mod Plain

@@ -1,0 +1,5 @@
+mod FirstLemmas
+mod MarkLemmas
+mod RankLemmas
+mod SoundLemmas
+mod StepLemmas
