@@ -3,6 +3,7 @@ use Rattle.std.proofs.Common.{◌≡◌, ◌<◌, zero, suc, List, [], ◌∷◌
 use Rattle.std.specs.List.{All}
 use Rattle.vm_config.specs.declared.config.Config.{Config}
 use Rattle.vm_sweep.specs.declared.job.Workplace.{Workplace}
+use Rattle.vm_sweep.specs.declared.outcome.Detail.{Detail}
 use Rattle.vm_sweep.specs.Orders.{IsVaried, Order, order_of}
 use Rattle.vm_tally.specs.Combinations.{Values}
 use Rattle.vm_sweep.specs.Rounds.{CanRun, IsUnderWay}
@@ -24,16 +25,16 @@ under-way_next left new (order ∷ round) places after is some far serves =
       ready = λ k d less. subst (λ (base : Config). CanRun base _) first (serves k d less 0 order (omega arith));
     }
 
-all-of : (config : Config) (list : List Values) → All (λ (o : Order). o.base ≡ config) (map (order_of config) list)
-all-of config [] k d less = absurd (omega (arith, less))
-all-of config (v ∷ list) zero d less = refl
-all-of config (v ∷ list) (suc k) d less = all-of config list k d (omega (arith, less))
+all-of : (detail : Detail) (config : Config) (list : List Values) → All (λ (o : Order). o.base ≡ config) (map (order_of detail config) list)
+all-of detail config [] k d less = absurd (omega (arith, less))
+all-of detail config (v ∷ list) zero d less = refl
+all-of detail config (v ∷ list) (suc k) d less = all-of detail config list k d (omega (arith, less))
 
 -- before the first round
-pub under-way_first : (config : Config) (list : List Values) (left : List Order) (places : List Workplace) → left ≡ map (order_of config) list
-    → All (CanRun config) places → IsUnderWay left places
-under-way_first config list left places is ready = record {
+pub under-way_first : (detail : Detail) (config : Config) (list : List Values) (left : List Order) (places : List Workplace)
+    → left ≡ map (order_of detail config) list → All (CanRun config) places → IsUnderWay left places
+under-way_first detail config list left places is ready = record {
   base = config;
-  same = subst (All (λ (o : Order). o.base ≡ config)) (sym is) (all-of config list);
+  same = subst (All (λ (o : Order). o.base ≡ config)) (sym is) (all-of detail config list);
   ready = ready;
 }

@@ -11,6 +11,7 @@ use Rattle.vm_sim.specs.Run.{MeansConfig}
 use Rattle.vm_streams.specs.Streams.{AppendsFront}
 use Rattle.vm_sweep.specs.Combinations.{ValueLists, combinations}
 use Rattle.vm_sweep.specs.Orders.{Order, order_of}
+use Rattle.vm_sweep.specs.declared.outcome.Detail.TheVariants.{Run}
 use Rattle.vm_sweep_charts.specs.SweepDrawing.{sweep_drawing}
 use Rattle.vm_sweep_charts.specs.declared.runs.SweptRun.{SweptRun}
 use Rattle.vm_tally.specs.Combinations.{Values, configured, values_of}
@@ -43,7 +44,7 @@ curves_of lists = value_count lists.swap * value_count lists.tax * value_count l
 
 -- the runs of all combinations, in order
 abbrev pub runs_of : ValueLists → Configuration → List SweptRun
-runs_of lists config = map swept_of (map (order_of config) (combinations lists (values_of config)))
+runs_of lists config = map swept_of (map (order_of Run config) (combinations lists (values_of config)))
 
 -- the drawing of the sweep of a configuration
 unfoldable pub drawing_of : ValueLists → Configuration → List ℕ

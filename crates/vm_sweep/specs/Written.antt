@@ -2,13 +2,12 @@
 use Rattle.std.specs.Prelude.{◌≡◌, ◌⊎◌, ℕ, List, ◌++◌, Option, Err}
 use Rattle.std.specs.List.{concat}
 use Rattle.std.specs.Io.KnownBytes.{Appends, Keeps}
+use Rattle.vm_config.specs.declared.config.Config.{Config as Configuration}
 use Rattle.vm_config.specs.Reading.{config_of}
 use Rattle.vm_sim.specs.declared.run_error.RunError.{RunError}
 use Rattle.vm_sim.specs.declared.run_error.RunError.TheVariants.{Config, Read, Write, Memory, Workers}
 use Rattle.vm_sim.specs.Run.{MeansConfig}
 use Rattle.vm_streams.specs.Streams.{AppendsFront}
-use Rattle.vm_sweep.specs.Combinations.{ValueLists}
-use Rattle.vm_sweep.specs.Table.{rows_of, table_of}
 
 module _ (old new : Option (List ℕ)) where
   -- the rows but those that are left were written, whole and in order, and nothing else
@@ -29,10 +28,10 @@ module _ (old new : Option (List ℕ)) where
   FailsWithin rows Write = AppendsFront old new (concat rows)
   FailsWithin rows Memory = WritesFirst rows
 
-  -- why there is no table, or not all of it, and what was written by then
-  abbrev pub FailsOnTable : ValueLists → List ℕ → RunError → Type 0
-  FailsOnTable lists text Workers = ⊥
-  FailsOnTable lists text Read = ⊥
-  FailsOnTable lists text (Config fault) = Keeps old new × (config_of text ≡ Err fault)
-  FailsOnTable lists text Write = MeansConfig (λ config. AppendsFront old new (table_of lists config)) text
-  FailsOnTable lists text Memory = Keeps old new ⊎ MeansConfig (λ config. WritesFirst (rows_of lists config)) text
+  -- why the rows of the configuration that a text is were not all written, and what was written by then
+  abbrev pub FailsOnTable : (rows : Configuration → List (List ℕ)) → (text : List ℕ) → RunError → Type 0
+  FailsOnTable rows text Workers = ⊥
+  FailsOnTable rows text Read = ⊥
+  FailsOnTable rows text (Config fault) = Keeps old new × (config_of text ≡ Err fault)
+  FailsOnTable rows text Write = MeansConfig (λ config. AppendsFront old new (concat (rows config))) text
+  FailsOnTable rows text Memory = Keeps old new ⊎ MeansConfig (λ config. WritesFirst (rows config)) text

@@ -9,6 +9,7 @@ ghost use Rattle.vm_sweep.specs.Rounds.{IsUnderWay};
 
 use crate::job::{RunDone, RunJob, Workplace};
 use crate::lists::Lists;
+use crate::outcome::{Detail, Outcome};
 use crate::progress::Progress;
 use crate::rounds::{prepare, run_next};
 use std::alloc::{AllocError, Global};
@@ -24,7 +25,9 @@ fn swept_of(done: &RunDone) -> Option<SweptRun>
     ensures { IfSome result (λ run. run ≡ swept_of done.now) }
 {
     let values = done.combination();
-    let summary = done.outcome()?;
+    let Some(Outcome::InNumbers(summary)) = done.outcome() else {
+        return None;
+    };
     Some(SweptRun {
         frames: values.frames,
         swap: values.swap,
@@ -83,7 +86,7 @@ fn drawing_of<RT: Threads + Sync, P: Progress>(
     requires { (0 < workers) × (workers ≤ 64) }
     ensures { IfOk result (λ drawing. drawing.items ≡ drawing_of lists.now config) }
 {
-    let (jobs, mut places) = prepare(alloc, config, lists, workers)?;
+    let (jobs, mut places) = prepare(alloc, Detail::Run, config, lists, workers)?;
     let runs = run_all(rt, alloc, jobs.into_iter(), &mut places, progress)?;
     sweep_svg(alloc, &runs, lists.curve_count())
 }

@@ -2,20 +2,22 @@
 ghost use Rattle.std.specs.Prelude.{◌≡◌, IfSome};
 ghost use Rattle.vm_config.specs.declared.config.Config.{Config as Configuration};
 ghost use Rattle.vm_sweep.specs.Orders.{IsVaried};
+ghost use Rattle.vm_sweep.specs.Outcomes.{Tells};
 ghost use Rattle.vm_tally.specs.Combinations.{configured};
-ghost use Rattle.vm_tally.specs.Summary.{summary_of};
 
+use crate::outcome::{Detail, Outcome, run_told};
 use std::alloc::Global;
 use std::marker::Model;
 use std::snapshot::Snapshot;
 use vm_config::Config;
 use vm_lanes::Task;
-use vm_tally::{Combination, Summary, run_alone};
+use vm_tally::Combination;
 
-/// A run that is wanted. To a contract it is its values, and the configuration whose own they take the place of.
+/// A run that is wanted. To a contract it is its values, the configuration whose own they take the place of, and what is told of it.
 #[derive(Drop)]
 pub(crate) struct RunJob {
-    pub(crate) combination: Combination,
+    combination: Combination,
+    detail: Detail,
     base: Snapshot<Config>,
 }
 
@@ -24,17 +26,19 @@ impl Model for RunJob {
 
     ghost Value = { Order };
 
-    ghost view = { λ j. record { base = j.base.value; values = j.combination } };
+    ghost view = { λ j. record { base = j.base.value; values = j.combination; detail = j.detail } };
 }
 
 impl RunJob {
     /// A run of this configuration, with these values in the place of its own.
-    pub(crate) fn new(combination: Combination, base: &Config) -> Self
+    pub(crate) fn new(detail: Detail, combination: Combination, base: &Config) -> Self
         ensures base { result.base ≡ base.now }
         ensures values { result.values ≡ combination }
+        ensures detail { result.detail ≡ detail }
     {
         RunJob {
             combination,
+            detail,
             base: Snapshot::of(base),
         }
     }
@@ -45,21 +49,22 @@ impl RunJob {
 #[derive(Drop)]
 pub(crate) struct RunDone {
     combination: Combination,
+    detail: Detail,
     base: Snapshot<Config>,
-    outcome: Option<Summary>,
+    outcome: Option<Outcome>,
 }
 
 impl Model for RunDone {
     ghost use Rattle.std.specs.Prelude.{◌≡◌, IfSome};
     ghost use Rattle.vm_sweep.specs.Orders.{Order};
+    ghost use Rattle.vm_sweep.specs.Outcomes.{Tells};
     ghost use Rattle.vm_tally.specs.Combinations.{configured};
-    ghost use Rattle.vm_tally.specs.Summary.{summary_of};
 
     ghost Value = { Order };
 
-    ghost view = { λ d. record { base = d.base.value; values = d.combination } };
+    ghost view = { λ d. record { base = d.base.value; values = d.combination; detail = d.detail } };
 
-    ghost invariant = { λ d. IfSome d.outcome (λ s. s ≡ summary_of (configured d.combination d.base.value)) };
+    ghost invariant = { λ d. IfSome d.outcome (Tells d.detail d.combination (configured d.combination d.base.value)) };
 }
 
 impl RunDone {
@@ -71,10 +76,11 @@ impl RunDone {
     }
 
     /// What is told of it, unless memory was refused.
-    pub(crate) fn outcome(&self) -> Option<Summary>
-        ensures { IfSome result (λ s. s ≡ summary_of (configured self.now.values self.now.base)) }
+    pub(crate) fn outcome(&self) -> Option<&Outcome>
+        ensures { IfSome result (λ outcome. Tells self.now.detail self.now.values
+            (configured self.now.values self.now.base) outcome.now) }
     {
-        self.outcome
+        self.outcome.as_ref()
     }
 }
 
@@ -86,17 +92,17 @@ pub(crate) struct Workplace {
 }
 
 // Runs the configuration of a thread with these values.
-fn run_in(place: &mut Workplace, combination: &Combination) -> Option<Summary>
+fn run_in(place: &mut Workplace, detail: Detail, combination: &Combination) -> Option<Outcome>
     ensures told { (base : Configuration) → IfSome place.old.config (IsVaried base)
-        → IfSome result (λ s. s ≡ summary_of (configured combination.now base)) }
+        → IfSome result (Tells detail combination.now (configured combination.now base)) }
     ensures kept { (base : Configuration) → IfSome place.old.config (IsVaried base) → IfSome place.new.config (IsVaried base) }
 {
     let mut config = place.config.take()?;
     combination.apply(&mut config);
-    match run_alone(place.alloc, config) {
-        Ok((summary, config)) => {
+    match run_told(place.alloc, detail, combination, config) {
+        Ok((outcome, config)) => {
             place.config = Some(config);
-            Some(summary)
+            Some(outcome)
         }
         Err(_) => None,
     }
@@ -115,10 +121,15 @@ impl Task for RunJob {
     ghost result_of = { λ job. job };
 
     fn run(self, place: &mut Workplace) -> RunDone {
-        let RunJob { combination, base } = self;
-        let outcome = run_in(place, &combination);
+        let RunJob {
+            combination,
+            detail,
+            base,
+        } = self;
+        let outcome = run_in(place, detail, &combination);
         RunDone {
             combination,
+            detail,
             base,
             outcome,
         }

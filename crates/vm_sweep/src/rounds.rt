@@ -8,6 +8,7 @@ ghost use Rattle.vm_tally.specs.Combinations.{values_of};
 
 use crate::job::{RunDone, RunJob, Workplace};
 use crate::lists::Lists;
+use crate::outcome::Detail;
 use std::alloc::{AllocError, Global};
 use std::thread::Threads;
 use std::vec::IntoIter;
@@ -16,12 +17,17 @@ use vm_lanes::run_round_with;
 use vm_tally::Combination;
 
 // The runs of a configuration with each of these combinations, in order.
-fn jobs_of(alloc: Global, config: &Config, list: &[Combination]) -> Result<Vec<RunJob>, AllocError>
-    ensures { IfOk result (λ jobs. jobs.items ≡ map (order_of config.now) list.now) }
+fn jobs_of(
+    alloc: Global,
+    detail: Detail,
+    config: &Config,
+    list: &[Combination],
+) -> Result<Vec<RunJob>, AllocError>
+    ensures { IfOk result (λ jobs. jobs.items ≡ map (order_of detail config.now) list.now) }
 {
     let mut jobs = Vec::new(alloc);
     for combination in list {
-        jobs.push(RunJob::new(*combination, config))?;
+        jobs.push(RunJob::new(detail, *combination, config))?;
     }
     Ok(jobs)
 }
@@ -51,17 +57,18 @@ fn places_for(alloc: Global, config: Config, count: usize) -> Result<Vec<Workpla
 /// more than there are runs.
 pub(crate) fn prepare(
     alloc: Global,
+    detail: Detail,
     config: Config,
     lists: &Lists,
     workers: u32,
 ) -> Result<(Vec<RunJob>, Vec<Workplace>), AllocError>
     requires { (0 < workers) × (workers ≤ 64) }
-    ensures jobs { IfOk result (λ made. made.0.items ≡ map (order_of config) (combinations lists.now (values_of config))) }
+    ensures jobs { IfOk result (λ made. made.0.items ≡ map (order_of detail config) (combinations lists.now (values_of config))) }
     ensures places { IfOk result (λ made. (0 < vec_len made.1) × (vec_len made.1 ≤ 64)) }
     ensures under_way { IfOk result (λ made. IsUnderWay made.0.items made.1.items) }
 {
     let list = lists.combinations(alloc, Combination::of(&config))?;
-    let jobs = jobs_of(alloc, &config, &list)?;
+    let jobs = jobs_of(alloc, detail, &config, &list)?;
     let threads = (workers as usize).min(jobs.len()).max(1);
     let places = places_for(alloc, config, threads)?;
     Ok((jobs, places))

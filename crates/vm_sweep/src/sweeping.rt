@@ -7,12 +7,13 @@ ghost use Rattle.vm_sim.specs.declared.run_error.RunError.TheVariants.{Write};
 ghost use Rattle.vm_sim.specs.Run.{CutShort, MeansConfig, NewlyFailed};
 ghost use Rattle.vm_streams.specs.Streams.{AppendsFront};
 ghost use Rattle.vm_sweep.specs.Rounds.{IsUnderWay};
-ghost use Rattle.vm_sweep.specs.Table.{record_of, rows_of, table_of};
+ghost use Rattle.vm_sweep.specs.Table.{guest_rows_of, guest_table_of, header_for, record_of, rows_for, rows_of, table_of};
 ghost use Rattle.vm_sweep.specs.Written.{FailsOnTable, FailsWithin};
-ghost use Rattle.vm_tally.specs.Table.{header};
+ghost use Rattle.vm_tally.specs.Table.{record_text};
 
 use crate::job::{RunDone, RunJob, Workplace};
 use crate::lists::Lists;
+use crate::outcome::{Detail, Outcome};
 use crate::progress::Progress;
 use crate::rounds::{prepare, run_next};
 use std::alloc::Global;
@@ -21,32 +22,73 @@ use std::vec::IntoIter;
 use vm_config::{Config, read_config};
 use vm_sim::RunError;
 use vm_streams::{Sink, write_text};
-use vm_tally::{header_text, record_text};
+use vm_tally::{Combination, Summary, guests_header_text, header_text, record_text};
+
+// The header of a table.
+fn header_for(detail: Detail) -> &'static str
+    ensures { result.now ≡ header_for detail }
+{
+    match detail {
+        Detail::Run => header_text(),
+        Detail::EachGuest => guests_header_text(),
+    }
+}
 
 // Writes the header.
-fn write_header<W: Sink>(writer: &mut W) -> Result<(), RunError>
-    ensures done { OnOk result (Appends (W.contents writer.old) (W.contents writer.new) header) }
-    ensures front { OnErr result (AppendsFront (W.contents writer.old) (W.contents writer.new) header) }
+fn write_header<W: Sink>(detail: Detail, writer: &mut W) -> Result<(), RunError>
+    ensures done { OnOk result (Appends (W.contents writer.old) (W.contents writer.new) (header_for detail)) }
+    ensures front { OnErr result (AppendsFront (W.contents writer.old) (W.contents writer.new) (header_for detail)) }
     ensures stays { OnOk result (W.has_failed writer.new ≡ W.has_failed writer.old) }
     ensures failed { IfErr result (λ error. (error ≡ Write) × (W.has_failed writer.new ≡ true)) }
 {
-    write_text(writer, header_text().as_bytes())?;
+    write_text(writer, header_for(detail).as_bytes())?;
     Ok(())
 }
 
-// Writes the record of a run, if memory lasted for it.
+// Writes a row.
+fn write_row<W: Sink>(row: &str, writer: &mut W) -> Result<(), RunError>
+    ensures done { OnOk result (Appends (W.contents writer.old) (W.contents writer.new) row.now) }
+    ensures failed { IfErr result (FailsWithin (W.contents writer.old) (W.contents writer.new) (row.now ∷ [])) }
+    ensures stays { OnOk result (W.has_failed writer.new ≡ W.has_failed writer.old) }
+    ensures cause { IfErr result (CutShort (W.has_failed writer.old) (W.has_failed writer.new)) }
+{
+    write_text(writer, row.as_bytes())?;
+    Ok(())
+}
+
+// Writes the record of a run that is told in numbers.
+fn write_summary<W: Sink>(
+    alloc: Global,
+    combination: &Combination,
+    summary: &Summary,
+    writer: &mut W,
+) -> Result<(), RunError>
+    ensures done { OnOk result (Appends (W.contents writer.old) (W.contents writer.new) (record_text combination.now summary.now)) }
+    ensures failed { IfErr result (FailsWithin (W.contents writer.old) (W.contents writer.new)
+        (record_text combination.now summary.now ∷ [])) }
+    ensures stays { OnOk result (W.has_failed writer.new ≡ W.has_failed writer.old) }
+    ensures cause { IfErr result (CutShort (W.has_failed writer.old) (W.has_failed writer.new)) }
+{
+    let text = record_text(alloc, combination, summary)?;
+    write_row(text.as_str(), writer)
+}
+
+// Writes what is told of a run, if memory lasted for it.
 fn write_record<W: Sink>(alloc: Global, done: &RunDone, writer: &mut W) -> Result<(), RunError>
     ensures done { OnOk result (Appends (W.contents writer.old) (W.contents writer.new) (record_of done.now)) }
     ensures failed { IfErr result (FailsWithin (W.contents writer.old) (W.contents writer.new) (record_of done.now ∷ [])) }
     ensures stays { OnOk result (W.has_failed writer.new ≡ W.has_failed writer.old) }
     ensures cause { IfErr result (CutShort (W.has_failed writer.old) (W.has_failed writer.new)) }
 {
-    let Some(summary) = done.outcome() else {
+    let Some(outcome) = done.outcome() else {
         return Err(RunError::Memory);
     };
-    let text = record_text(alloc, &done.combination(), &summary)?;
-    write_text(writer, text.as_bytes())?;
-    Ok(())
+    match outcome {
+        Outcome::InNumbers(summary) => {
+            write_summary(alloc, &done.combination(), summary, writer)
+        }
+        Outcome::AsRecords(records) => write_row(records.as_str(), writer),
+    }
 }
 
 // Writes the records of runs, up to the first that lacked memory.
@@ -94,6 +136,7 @@ fn write_runs<RT: Threads + Sync, W: Sink, P: Progress>(
 fn write_table<RT: Threads + Sync, W: Sink, P: Progress>(
     rt: &RT,
     alloc: Global,
+    detail: Detail,
     config: Config,
     lists: &Lists,
     workers: u32,
@@ -101,13 +144,14 @@ fn write_table<RT: Threads + Sync, W: Sink, P: Progress>(
     writer: &mut W,
 ) -> Result<(), RunError>
     requires { (0 < workers) × (workers ≤ 64) }
-    ensures done { OnOk result (Appends (W.contents writer.old) (W.contents writer.new) (table_of lists.now config)) }
-    ensures failed { IfErr result (FailsWithin (W.contents writer.old) (W.contents writer.new) (rows_of lists.now config)) }
+    ensures done { OnOk result (Appends (W.contents writer.old) (W.contents writer.new)
+        (concat (rows_for detail lists.now config))) }
+    ensures failed { IfErr result (FailsWithin (W.contents writer.old) (W.contents writer.new) (rows_for detail lists.now config)) }
     ensures stays { OnOk result (W.has_failed writer.new ≡ W.has_failed writer.old) }
     ensures cause { IfErr result (CutShort (W.has_failed writer.old) (W.has_failed writer.new)) }
 {
-    write_header(writer)?;
-    let (jobs, mut places) = prepare(alloc, config, lists, workers)?;
+    write_header(detail, writer)?;
+    let (jobs, mut places) = prepare(alloc, detail, config, lists, workers)?;
     write_runs(rt, alloc, jobs.into_iter(), &mut places, progress, writer)
 }
 
@@ -135,9 +179,57 @@ pub fn sweep<RT: Threads + Sync, W: Sink, P: Progress>(
     requires { (0 < workers) × (workers ≤ 64) }
     ensures done { OnOk result (MeansConfig (λ config. Appends (W.contents writer.old) (W.contents writer.new)
         (table_of lists.now config)) text.now) }
-    ensures failed { IfErr result (FailsOnTable (W.contents writer.old) (W.contents writer.new) lists.now text.now) }
+    ensures failed { IfErr result (FailsOnTable (W.contents writer.old) (W.contents writer.new) (rows_of lists.now) text.now) }
     ensures writer_failed { NewlyFailed (W.has_failed writer.old) (W.has_failed writer.new) → result ≡ Err Write }
 {
     let config = read_config(alloc, text)?;
-    write_table(rt, alloc, config, lists, workers, progress, writer)
+    write_table(
+        rt,
+        alloc,
+        Detail::Run,
+        config,
+        lists,
+        workers,
+        progress,
+        writer,
+    )
+}
+
+/// Runs the configuration that a text is once for each combination of values, as [`sweep`] does, and writes a header and, for each run
+/// in order, a record for each guest of the configuration (RFC 4180), in their order.
+///
+/// The table is the same for any number of workers. The records of a round go out before the next one begins, and then `progress` is
+/// told.
+///
+/// | Answer | Cause | What was written |
+/// |---|---|---|
+/// | [`RunError::Config`] | the text is no configuration | nothing |
+/// | [`RunError::Write`] | a write failed | a front of the table |
+/// | [`RunError::Memory`] | memory was refused | the header and the records of the first runs, whole ones, or nothing |
+pub fn sweep_guests<RT: Threads + Sync, W: Sink, P: Progress>(
+    rt: &RT,
+    alloc: Global,
+    text: &[u8],
+    lists: &Lists,
+    workers: u32,
+    progress: &P,
+    writer: &mut W,
+) -> Result<(), RunError>
+    requires { (0 < workers) × (workers ≤ 64) }
+    ensures done { OnOk result (MeansConfig (λ config. Appends (W.contents writer.old) (W.contents writer.new)
+        (guest_table_of lists.now config)) text.now) }
+    ensures failed { IfErr result (FailsOnTable (W.contents writer.old) (W.contents writer.new) (guest_rows_of lists.now) text.now) }
+    ensures writer_failed { NewlyFailed (W.has_failed writer.old) (W.has_failed writer.new) → result ≡ Err Write }
+{
+    let config = read_config(alloc, text)?;
+    write_table(
+        rt,
+        alloc,
+        Detail::EachGuest,
+        config,
+        lists,
+        workers,
+        progress,
+        writer,
+    )
 }

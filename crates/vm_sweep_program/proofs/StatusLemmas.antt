@@ -1,18 +1,23 @@
 -- What the statuses 1 and 3 of a sweep say.
-use Rattle.std.proofs.Common.{◌≡◌, ◌∙◌, ℕ, List, Option, Ok, Err, ap, subst, sym, arith, inl, inr}
+use Rattle.std.proofs.Common.{◌≡◌, ◌∙◌, ◌⊎◌, ℕ, List, Option, Ok, Err, ap, subst, sym, arith, inl, inr}
 use Rattle.std.proofs.lemmas.List.Folds.{concat-append}
 use Rattle.std.specs.List.{concat}
-use Rattle.std.specs.Io.KnownBytes.{Consumes, IsAtEnd}
+use Rattle.std.specs.Io.KnownBytes.{Consumes, IsAtEnd, Keeps}
 use Rattle.vm_command_line.specs.Statuses.{status_of, IsRefused}
 use Rattle.vm_config.specs.declared.config.Config.{Config as Configuration}
 use Rattle.vm_config.specs.Reading.{config_of}
 use Rattle.vm_sim.specs.declared.run_error.RunError.{RunError}
 use Rattle.vm_sim.specs.declared.run_error.RunError.TheVariants.{Config, Read, Write, Memory, Workers}
+use Rattle.vm_sim.specs.Run.{MeansConfig}
 use Rattle.vm_streams.specs.Streams.{AppendsFront}
 use Rattle.vm_streams.proofs.StreamLemmas.{Appends-then_front, AppendsFront-none}
 use Rattle.vm_sweep.specs.Combinations.{ValueLists}
+use Rattle.vm_sweep.specs.Drawn.{FailsOnDrawing}
+use Rattle.vm_sweep.specs.Table.{guest_rows_of, rows_of}
 use Rattle.vm_sweep.specs.Written.{FailsOnTable, WritesFirst}
-use Rattle.vm_sweep_program.specs.Written.{StopsEarly}
+use Rattle.vm_sweep_program.specs.Written.{FailsOnSweep, StopsEarly, sweep_of}
+use Rattle.vm_sweep_words.specs.declared.asked.Form.{Form}
+use Rattle.vm_sweep_words.specs.declared.asked.Form.TheVariants.{Drawing, Guests, Table}
 
 -- some of the rows are a front of all
 front-of_some : (old new : Option (List ℕ)) (rows : List (List ℕ)) → WritesFirst old new rows → AppendsFront old new (concat rows)
@@ -20,27 +25,65 @@ front-of_some old new rows (left, far) =
     subst (AppendsFront old new) (sym (concat-append far.told left) ∙ ap concat far.whole)
     (Appends-then_front old new new (concat far.told) (concat left) far.written (AppendsFront-none new (concat left)))
 
-module _ (read_old read_new written_old written_new : Option (List ℕ)) (lists : ValueLists) (text run : List ℕ) (same : run ≡ text) where
+-- how a sweep failed, whatever its form: it says of each error what its statuses need
+module _ (old new : Option (List ℕ)) (lists : ValueLists) (text : List ℕ) where
+  -- what an error says where a front of this may have been written
+  abbrev pub Fails : (Configuration → List ℕ) → RunError → Type 0
+  Fails sweep Workers = ⊥
+  Fails sweep Read = ⊥
+  Fails sweep (Config fault) = config_of text ≡ Err fault
+  Fails sweep Write = MeansConfig (λ config. AppendsFront old new (sweep config)) text
+  Fails sweep Memory = Keeps old new ⊎ MeansConfig (λ config. AppendsFront old new (sweep config)) text
+
+  of-table : (rows : Configuration → List (List ℕ)) (error : RunError) → FailsOnTable old new rows text error
+      → Fails (λ config. concat (rows config)) error
+  of-table rows Workers fails = fails
+  of-table rows Read fails = fails
+  of-table rows (Config fault) fails = fails.1
+  of-table rows Write fails = fails
+  of-table rows Memory (inl keeps) = inl keeps
+  of-table rows Memory (inr (config, means, some)) = inr (config, means, front-of_some _ _ _ some)
+
+  of-drawing : (error : RunError) → FailsOnDrawing old new lists text error → Fails (sweep_of Drawing lists) error
+  of-drawing Workers fails = fails
+  of-drawing Read fails = fails
+  of-drawing (Config fault) fails = fails.1
+  of-drawing Write fails = fails
+  of-drawing Memory fails = inl fails
+
+  pub of-sweep : (form : Form) (error : RunError) → FailsOnSweep old new form lists text error → Fails (sweep_of form lists) error
+  of-sweep Table error fails = of-table (rows_of lists) error fails
+  of-sweep Guests error fails = of-table (guest_rows_of lists) error fails
+  of-sweep Drawing error fails = of-drawing error fails
+
+module _ (read_old read_new written_old written_new : Option (List ℕ)) (form : Form) (lists : ValueLists) (text run : List ℕ) (same : run ≡ text) where
   meant : (config : Configuration) → config_of run ≡ Ok config → config_of text ≡ Ok config
   meant config is = subst (λ (bytes : List ℕ). config_of bytes ≡ Ok config) same is
 
-  -- only a refused configuration has status 1
-  pub refused-by : (status : ℕ) (error : RunError) → status ≡ status_of error → FailsOnTable written_old written_new lists run error
+  refused-as : (status : ℕ) (error : RunError) → status ≡ status_of error → Fails written_old written_new lists run (sweep_of form lists) error
       → Consumes read_old read_new text → IsAtEnd read_new → status ≡ 1 → IsRefused read_old read_new
-  refused-by status (Config fault) is fails all end one =
-      (text, all, end, (fault, subst (λ (bytes : List ℕ). config_of bytes ≡ Err fault) same fails.1))
-  refused-by status Workers is fails all end one = absurd fails
-  refused-by status Read is fails all end one = absurd fails
-  refused-by status Write is fails all end one = absurd (omega (arith, is, one))
-  refused-by status Memory is fails all end one = absurd (omega (arith, is, one))
+  refused-as status (Config fault) is fails all end one =
+      (text, all, end, (fault, subst (λ (bytes : List ℕ). config_of bytes ≡ Err fault) same fails))
+  refused-as status Workers is fails all end one = absurd fails
+  refused-as status Read is fails all end one = absurd fails
+  refused-as status Write is fails all end one = absurd (omega (arith, is, one))
+  refused-as status Memory is fails all end one = absurd (omega (arith, is, one))
 
-  -- and one that has status 3 has written a front of the table, or nothing
-  pub stopped-by : (status : ℕ) (error : RunError) → status ≡ status_of error → FailsOnTable written_old written_new lists run error
-      → Consumes read_old read_new text → IsAtEnd read_new → status ≡ 3 → StopsEarly read_old read_new written_old written_new lists
-  stopped-by status (Config fault) is fails all end three = absurd (omega (arith, is, three))
-  stopped-by status Workers is fails all end three = absurd fails
-  stopped-by status Read is fails all end three = absurd fails
-  stopped-by status Write is (config, means, front) all end three = inl (text, all, end, (config, meant config means, front))
-  stopped-by status Memory is (inl keeps) all end three = inr keeps
-  stopped-by status Memory is (inr (config, means, some)) all end three =
-      inl (text, all, end, (config, meant config means, front-of_some _ _ _ some))
+  stopped-as : (status : ℕ) (error : RunError) → status ≡ status_of error → Fails written_old written_new lists run (sweep_of form lists) error
+      → Consumes read_old read_new text → IsAtEnd read_new → status ≡ 3 → StopsEarly read_old read_new written_old written_new form lists
+  stopped-as status (Config fault) is fails all end three = absurd (omega (arith, is, three))
+  stopped-as status Workers is fails all end three = absurd fails
+  stopped-as status Read is fails all end three = absurd fails
+  stopped-as status Write is (config, means, front) all end three = inl (text, all, end, (config, meant config means, front))
+  stopped-as status Memory is (inl keeps) all end three = inr keeps
+  stopped-as status Memory is (inr (config, means, front)) all end three = inl (text, all, end, (config, meant config means, front))
+
+  module _ (status : ℕ) (error : RunError) (is : status ≡ status_of error) (fails : FailsOnSweep written_old written_new form lists run error)
+      (all : Consumes read_old read_new text) (end : IsAtEnd read_new) where
+    -- only a refused configuration has status 1
+    pub refused-by : status ≡ 1 → IsRefused read_old read_new
+    refused-by one = refused-as status error is (of-sweep written_old written_new lists run form error fails) all end one
+
+    -- and one that has status 3 has written a front of the sweep, or nothing
+    pub stopped-by : status ≡ 3 → StopsEarly read_old read_new written_old written_new form lists
+    stopped-by three = stopped-as status error is (of-sweep written_old written_new lists run form error fails) all end three

@@ -6,7 +6,7 @@ ghost use Rattle.clap.specs.Words.{Text};
 ghost use Rattle.vm_command_line.specs.Statuses.{IsRefused};
 ghost use Rattle.vm_sim.specs.Run.{NewlyFailed};
 ghost use Rattle.vm_sweep_program.specs.Asking.{value_lists};
-ghost use Rattle.vm_sweep_program.specs.Written.{StopsEarly, StopsEarlyOn, WritesTable, WritesTableOf};
+ghost use Rattle.vm_sweep_program.specs.Written.{StopsEarly, StopsEarlyOn, WritesSweep, WritesSweepOf};
 ghost use Rattle.vm_sweep_words.specs.Lists.{AreWithin, lists_in};
 ghost use Rattle.vm_sweep_words.specs.Taken.{AreTaken};
 
@@ -30,13 +30,13 @@ fn run_on<RT: Threads + Sync, R: Source, W: Sink>(
 ) -> u8
     requires within { AreWithin (lists_in asked) }
     requires workers { (1 ≤ asked.workers) × (asked.workers ≤ 64) }
-    ensures done { result ≡ 0 → WritesTable (R.remaining reader.old) (R.remaining reader.new)
-        (W.contents writer.old) (W.contents writer.new) (value_lists (lists_in asked)) }
+    ensures done { result ≡ 0 → WritesSweep (R.remaining reader.old) (R.remaining reader.new)
+        (W.contents writer.old) (W.contents writer.new) asked.form (value_lists (lists_in asked)) }
     ensures refused { result ≡ 1 → IsRefused (R.remaining reader.old) (R.remaining reader.new) }
     ensures silent { result ≡ 1 → Keeps (W.contents writer.old) (W.contents writer.new) }
     ensures taken { result ≢ 2 }
     ensures stopped { result ≡ 3 → StopsEarly (R.remaining reader.old) (R.remaining reader.new)
-        (W.contents writer.old) (W.contents writer.new) (value_lists (lists_in asked)) }
+        (W.contents writer.old) (W.contents writer.new) asked.form (value_lists (lists_in asked)) }
     ensures reader_failed { NewlyFailed (R.has_failed reader.old) (R.has_failed reader.new) → result ≡ 3 }
     ensures writer_failed { NewlyFailed (W.has_failed writer.old) (W.has_failed writer.new) → result ≡ 3 }
     ensures known { result ≤ 3 }
@@ -59,7 +59,7 @@ pub fn status_for<RT: Threads + Sync, R: Source, W: Sink>(
     reader: &mut R,
     writer: &mut W,
 ) -> u8
-    ensures done { result ≡ 0 → WritesTableOf (R.remaining reader.old) (R.remaining reader.new)
+    ensures done { result ≡ 0 → WritesSweepOf (R.remaining reader.old) (R.remaining reader.new)
         (W.contents writer.old) (W.contents writer.new) (map string_bytes words.now) }
     ensures refused { result ≡ 1 → IsRefused (R.remaining reader.old) (R.remaining reader.new) }
     ensures silent { result ≡ 1 → Keeps (W.contents writer.old) (W.contents writer.new) }
@@ -79,16 +79,17 @@ pub fn status_for<RT: Threads + Sync, R: Source, W: Sink>(
     }
 }
 
-/// Runs the configuration that the reader gives once for each combination of the values that the words list, writes a header and a
-/// record for each run to the writer, and gives the status to end with. `rt` starts the threads; the words come from `system`, and
-/// on its standard error is said what is wrong, and with `--progress` how many runs are told.
+/// Runs the configuration that the reader gives once for each combination of the values that the words list, writes the runs to the
+/// writer, and gives the status to end with. What is written is a header and a record for each run, with `--guests` a record for each
+/// guest of each run, and with `--svg` a drawing. `rt` starts the threads; the words come from `system`, and on its standard error is
+/// said what is wrong, and with `--progress` how many runs are told.
 ///
 /// | Status | Cause | What was written |
 /// |---|---|---|
-/// | 0 | all was read, and it means a configuration | the whole table |
+/// | 0 | all was read, and it means a configuration | the whole table, or the drawing |
 /// | 1 | all was read, and it means no configuration | nothing |
 /// | 2 | the words are refused or ask for help; nothing was read | nothing |
-/// | 3 | reading or writing failed, the input is too long, or memory was refused | a front of the table, or nothing |
+/// | 3 | reading or writing failed, the input is too long, or memory was refused | a front of that, or nothing |
 ///
 /// A reader or a writer that fails in this call, and had not failed before, is always answered by 3.
 pub fn status<RT: Threads + Sync, R: Source, W: Sink>(
@@ -97,7 +98,7 @@ pub fn status<RT: Threads + Sync, R: Source, W: Sink>(
     reader: &mut R,
     writer: &mut W,
 ) -> u8
-    ensures done { result ≡ 0 → (words : List Text) × WritesTableOf (R.remaining reader.old) (R.remaining reader.new)
+    ensures done { result ≡ 0 → (words : List Text) × WritesSweepOf (R.remaining reader.old) (R.remaining reader.new)
         (W.contents writer.old) (W.contents writer.new) words }
     ensures refused { result ≡ 1 → IsRefused (R.remaining reader.old) (R.remaining reader.new) }
     ensures silent { result ≡ 1 → Keeps (W.contents writer.old) (W.contents writer.new) }
@@ -116,11 +117,11 @@ pub fn status<RT: Threads + Sync, R: Source, W: Sink>(
 }
 
 /// Runs the configuration on standard input once for each combination of the values that the words list, and writes a table (RFC
-/// 4180) with a record for each run to standard output.
+/// 4180) with a record for each run, or for each run and guest, or a drawing (SVG) to standard output.
 ///
-/// The words are those of `vmsweep [--frames LIST] [--swap LIST] [--tax LIST] [--page-rate LIST] [--progress] [--workers N]`: a setting
-/// that isn't listed keeps the configuration's own value, whole runs go on at most N threads, 1 to 64, and 1 where that isn't said.
-/// They are read before the input. The exit code is that of [`status`].
+/// The words are those of `vmsweep [--frames LIST] [--swap LIST] [--tax LIST] [--page-rate LIST] [--guests | --svg] [--progress]
+/// [--workers N]`: a setting that isn't listed keeps the configuration's own value, whole runs go on at most N threads, 1 to 64, and 1
+/// where that isn't said. They are read before the input. The exit code is that of [`status`].
 pub fn vmsweep(rt: &(impl Env + Input + Print + Eprint + AllocGlobal + Threads + Sync)) -> ExitCode
     ensures known { exit_status result ≤ 3 }
 {

@@ -1,20 +1,19 @@
-//! From the text of a configuration to its table.
+//! From the text of a configuration to its sweep.
 ghost use Rattle.std.specs.Prelude.{◌≡◌, ◌≤◌, Err, IfErr, OnOk};
 ghost use Rattle.std.specs.Io.KnownBytes.{Appends};
 ghost use Rattle.vm_sim.specs.declared.run_error.RunError.TheVariants.{Write};
 ghost use Rattle.vm_sim.specs.Run.{MeansConfig, NewlyFailed};
-ghost use Rattle.vm_sweep.specs.Table.{table_of};
-ghost use Rattle.vm_sweep.specs.Written.{FailsOnTable};
 ghost use Rattle.vm_sweep_program.specs.Asking.{value_lists};
+ghost use Rattle.vm_sweep_program.specs.Written.{FailsOnSweep, sweep_of};
 ghost use Rattle.vm_sweep_words.specs.Lists.{AreWithin, lists_in};
 
 use crate::telling::Telling;
 use std::thread::Threads;
 use vm_sim::{RunError, Sink};
-use vm_sweep::{Lists, sweep};
-use vm_sweep_words::Asked;
+use vm_sweep::{Lists, draw_sweep, sweep, sweep_guests};
+use vm_sweep_words::{Asked, Form};
 
-/// Runs the configuration that a text is as is asked for, and writes the table.
+/// Runs the configuration that a text is as is asked for, and writes the sweep in the form that is asked for.
 pub(crate) fn write_sweep<RT: Threads + Sync, W: Sink>(
     rt: &RT,
     system: &(impl Eprint + AllocGlobal),
@@ -25,9 +24,9 @@ pub(crate) fn write_sweep<RT: Threads + Sync, W: Sink>(
     requires within { AreWithin (lists_in asked) }
     requires workers { (1 ≤ asked.workers) × (asked.workers ≤ 64) }
     ensures done { OnOk result (MeansConfig (λ config. Appends (W.contents writer.old) (W.contents writer.new)
-        (table_of (value_lists (lists_in asked)) config)) text.now) }
-    ensures failed { IfErr result (FailsOnTable (W.contents writer.old) (W.contents writer.new)
-        (value_lists (lists_in asked)) text.now) }
+        (sweep_of asked.form (value_lists (lists_in asked)) config)) text.now) }
+    ensures failed { IfErr result (FailsOnSweep (W.contents writer.old) (W.contents writer.new)
+        asked.form (value_lists (lists_in asked)) text.now) }
     ensures writer_failed { NewlyFailed (W.has_failed writer.old) (W.has_failed writer.new) → result ≡ Err Write }
 {
     let Asked {
@@ -35,6 +34,7 @@ pub(crate) fn write_sweep<RT: Threads + Sync, W: Sink>(
         swap,
         tax,
         page_rate,
+        form,
         has_progress,
         workers,
     } = asked;
@@ -43,5 +43,10 @@ pub(crate) fn write_sweep<RT: Threads + Sync, W: Sink>(
         system,
         is_wanted: has_progress,
     };
-    sweep(rt, system.alloc(), text, &lists, workers, &telling, writer)
+    let alloc = system.alloc();
+    match form {
+        Form::Table => sweep(rt, alloc, text, &lists, workers, &telling, writer),
+        Form::Guests => sweep_guests(rt, alloc, text, &lists, workers, &telling, writer),
+        Form::Drawing => draw_sweep(rt, alloc, text, &lists, workers, &telling, writer),
+    }
 }

@@ -1,3 +1,2 @@
-pub mod CountLemmas
 pub mod ReadLemmas
 pub mod TakenLemmas

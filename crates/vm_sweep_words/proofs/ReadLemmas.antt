@@ -1,5 +1,6 @@
--- What is read of a list.
-use Rattle.std.proofs.Common.{◌≡◌, ◌∙◌, ◌⊎◌, ℕ, List, Option, Some, None, Result, Ok, inl, inr, refl, ap}
+-- What is read of a list, and of the values of one.
+use Rattle.std.proofs.Common.{◌≡◌, ◌∙◌, ◌⊎◌, ℕ, List, Option, Some, None, Result, Ok, inl, inr, refl, ap, slice_get, slice_index, unwrap_or}
+use Rattle.std.proofs.lemmas.Option.{unwrap_or-slice_get}
 use Rattle.clap.specs.Words.{Row, Text}
 use Rattle.vm_lists.specs.Lists.{IsFaultOf, list_of}
 use Rattle.vm_lists.specs.declared.bounds.Limits.{Limits}
@@ -13,6 +14,9 @@ use Rattle.vm_sweep_words.specs.Refused.{IsFirstOf}
 use Rattle.vm_sweep_words.specs.declared.faults.SweepFault.{SweepFault}
 use Rattle.vm_sweep_words.specs.declared.faults.SweepFault.TheVariants.{BadList}
 use Rattle.vm_sweep_words.specs.declared.keys.SweptKey.{SweptKey}
+
+pub value_read : (values : List ℕ) (i : ℕ) → unwrap_or (slice_get values i) 0 ≡ slice_index values i
+value_read values i = unwrap_or-slice_get values i 0
 
 module _ (key : SweptKey) (rows : List Row) (word : Text) (is : word ≡ word_of key) where
   pub given-none : None ≡ text_of word rows → given key rows ≡ Ok None

@@ -1,10 +1,11 @@
 -- What words say to `vmsweep`, by examples.
 use Rattle.std.specs.Prelude.{◌≡◌, ℕ, Bool, List, ◌∷◌, None, Ok, codes}
 use Rattle.clap.specs.Words.{Text}
-use Rattle.vm_sweep_words.specs.CommandLine.{rows_of, sweep_line, workers_of}
+use Rattle.vm_sweep_words.specs.CommandLine.{form_of, rows_of, sweep_line, workers_of}
 use Rattle.vm_sweep_words.specs.Lists.{Lists, lists_of}
 use Rattle.vm_sweep_words.specs.Refused.{IsRefusal}
 use Rattle.vm_sweep_words.specs.Taken.{AreTaken}
+use Rattle.vm_sweep_words.specs.declared.asked.Form.{Form}
 use Rattle.vm_sweep_words.specs.declared.faults.SweepFault.{SweepFault}
 use Rattle.vm_words.specs.Words.{AreTaken as AreTakenBy, has_flag}
 
@@ -16,9 +17,10 @@ abbrev pub called : List Text → List Text
 called words = codes "vmsweep" ∷ words
 
 -- they are taken, and ask for this
-pub record AskFor (words : List Text) (lists : Lists) (progress : Bool) (workers : ℕ) : Type 0 where
+pub record AskFor (words : List Text) (lists : Lists) (form : Form) (progress : Bool) (workers : ℕ) : Type 0 where
   pub taken : AreTaken (called words)
   pub lists_are : lists_of (rows_of (called words)) ≡ Ok lists
+  pub form_is : form_of (rows_of (called words)) ≡ form
   pub progress_is : has_flag (codes "progress") (rows_of (called words)) ≡ progress
   pub workers_are : workers_of (rows_of (called words)) ≡ workers
 
@@ -28,6 +30,6 @@ pub record AreRefusedFor (words : List Text) (fault : SweepFault) : Type 0 where
   pub first : IsRefusal (rows_of (called words)) fault
   pub untaken : AreTaken (called words) → ⊥
 
--- they are not taken
+-- they have not the form of the command line, or ask for help
 abbrev pub AreRefused : List Text → Type 0
 AreRefused words = AreTaken (called words) → ⊥

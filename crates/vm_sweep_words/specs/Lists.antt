@@ -1,5 +1,5 @@
 -- The lists that words give, and what their combinations are.
-use Rattle.std.specs.Prelude.{ℕ, ◌≤◌, ◌*◌, All, IfSome, List, length, Option, Some, None, Result, Ok, Err}
+use Rattle.std.specs.Prelude.{ℕ, ◌≤◌, ◌*◌, All, IfSome, List, [], length, Option, Some, None, Result, Ok, Err, unwrap_or}
 use Rattle.clap.specs.Words.{Row, Text}
 use Rattle.vm_lists.specs.Lists.{IsWithin, list_of}
 use Rattle.vm_lists.specs.declared.faults.ListFault.{ListFault}
@@ -78,6 +78,14 @@ abbrev pub count_of : Option (List ℕ) → ℕ
 count_of None = 1
 count_of (Some values) = length values
 
+-- combinations of values of all keys but the frames: a drawing has a curve for each
+abbrev pub curves : Lists → ℕ
+curves lists = count_of lists.swap * count_of lists.tax * count_of lists.page_rate
+
 -- combinations of values of all keys
 abbrev pub combinations : Lists → ℕ
-combinations lists = count_of lists.frames * count_of lists.swap * count_of lists.tax * count_of lists.page_rate
+combinations lists = count_of lists.frames * curves lists
+
+-- the values of the frames that are given
+abbrev pub machines : Lists → List ℕ
+machines lists = unwrap_or lists.frames []

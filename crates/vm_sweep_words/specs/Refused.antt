@@ -1,10 +1,14 @@
 -- Why words are refused that have the form of the command line.
-use Rattle.std.specs.Prelude.{◌≡◌, ◌⊎◌, ◌<◌, ℕ, List, Result, Ok, Err}
+use Rattle.std.specs.Prelude.{◌≡◌, ◌⊎◌, ◌≤◌, ◌<◌, ℕ, List, length, Result, Ok, Err}
+use Rattle.std.specs.List.Sorted.{IsStrictlyIncreasing}
 use Rattle.clap.specs.Words.{Row}
 use Rattle.vm_lists.specs.declared.faults.ListFaultKind.TheVariants.{Memory}
-use Rattle.vm_sweep_words.specs.Lists.{Lists, combinations, lists_of}
+use Rattle.vm_sweep_words.specs.CommandLine.{form_of}
+use Rattle.vm_sweep_words.specs.Lists.{Lists, combinations, curves, lists_of, machines}
+use Rattle.vm_sweep_words.specs.declared.asked.Form.{Form}
+use Rattle.vm_sweep_words.specs.declared.asked.Form.TheVariants.{Drawing}
 use Rattle.vm_sweep_words.specs.declared.faults.SweepFault.{SweepFault}
-use Rattle.vm_sweep_words.specs.declared.faults.SweepFault.TheVariants.{BadList, TooMany}
+use Rattle.vm_sweep_words.specs.declared.faults.SweepFault.TheVariants.{BadList, TooMany, OneMachine, NotRising, TooManyCurves}
 
 -- memory was refused
 abbrev pub IsMemory : SweepFault → Type 0
@@ -21,10 +25,17 @@ IsStatusOfFault fault status = ((status ≡ 2) × (IsMemory fault → ⊥)) ⊎ 
 
 -- ---- lists that are read
 
--- the fault of them together
-abbrev pub IsFaultOf : Lists → SweepFault → Type 0
-IsFaultOf lists TooMany = 10000 < combinations lists
-IsFaultOf lists _ = ⊥
+-- the first fault of a drawing of them
+abbrev pub IsFaultOfDrawing : Lists → SweepFault → Type 0
+IsFaultOfDrawing lists OneMachine = length (machines lists) < 2
+IsFaultOfDrawing lists NotRising = (2 ≤ length (machines lists)) × (IsStrictlyIncreasing (machines lists) → ⊥)
+IsFaultOfDrawing lists TooManyCurves = (2 ≤ length (machines lists)) × IsStrictlyIncreasing (machines lists) × (12 < curves lists)
+IsFaultOfDrawing lists _ = ⊥
+
+-- the first fault of them
+abbrev pub IsFaultOf : Form → Lists → SweepFault → Type 0
+IsFaultOf form lists TooMany = 10000 < combinations lists
+IsFaultOf form lists fault = (combinations lists ≤ 10000) × (form ≡ Drawing) × IsFaultOfDrawing lists fault
 
 -- ---- words that have the form of the command line
 
@@ -32,4 +43,4 @@ IsFaultOf lists _ = ⊥
 abbrev pub IsRefusal : List Row → SweepFault → Type 0
 IsRefusal rows fault =
     IsFirstOf (lists_of rows) fault
-    ⊎ ((lists : Lists) × (lists_of rows ≡ Ok lists) × IsFaultOf lists fault)
+    ⊎ ((lists : Lists) × (lists_of rows ≡ Ok lists) × IsFaultOf (form_of rows) lists fault)

@@ -1,9 +1,17 @@
 -- Which words `vmsweep` takes.
-use Rattle.std.specs.Prelude.{◌≡◌, ◌⊎◌, ℕ, ◌≤◌, List, Ok}
+use Rattle.std.specs.Prelude.{◌≡◌, ◌⊎◌, ℕ, ◌≤◌, List, length, Ok}
+use Rattle.std.specs.List.Sorted.{IsStrictlyIncreasing}
 use Rattle.clap.specs.Words.{Text}
-use Rattle.vm_sweep_words.specs.CommandLine.{rows_of, sweep_line}
-use Rattle.vm_sweep_words.specs.Lists.{Lists, combinations, lists_of}
+use Rattle.vm_sweep_words.specs.CommandLine.{form_of, rows_of, sweep_line}
+use Rattle.vm_sweep_words.specs.Lists.{Lists, combinations, curves, lists_of, machines}
+use Rattle.vm_sweep_words.specs.declared.asked.Form.TheVariants.{Drawing}
 use Rattle.vm_words.specs.Words.{AreTaken as AreTakenBy}
+
+-- a drawing is over machines of which each is larger than the one before it, and it has few curves
+pub record CanBeDrawn (lists : Lists) : Type 0 where
+  pub several : 2 ≤ length (machines lists)
+  pub rising : IsStrictlyIncreasing (machines lists)
+  pub few : curves lists ≤ 12
 
 -- words that are taken, of which the first is the program's name
 pub record AreTaken (words : List Text) : Type 0 where
@@ -13,6 +21,7 @@ pub record AreTaken (words : List Text) : Type 0 where
   pub lists : Lists
   pub read : lists_of (rows_of words) ≡ Ok lists
   pub few : combinations lists ≤ 10000
+  pub drawn : form_of (rows_of words) ≡ Drawing → CanBeDrawn lists
 
 -- words that are not taken have status 2; that memory was refused has 3
 abbrev pub IsStatusOfWords : List Text → ℕ → Type 0

@@ -15,6 +15,15 @@ pub enum SweepFault {
     /// There are more than 10000 combinations.
     #[error("more than 10000 combinations")]
     TooMany,
+    /// A drawing of one machine is asked for.
+    #[error("--svg: fewer than two values of --frames")]
+    OneMachine,
+    /// A drawing is asked for, and a value of `--frames` is not above the one before it.
+    #[error("--svg: the values of --frames do not rise")]
+    NotRising,
+    /// A drawing of more than 12 curves is asked for.
+    #[error("--svg: more than 12 combinations of --swap, --tax and --page-rate")]
+    TooManyCurves,
 }
 
 impl SweepFault {
@@ -24,7 +33,7 @@ impl SweepFault {
     {
         match self {
             SweepFault::BadList { fault, .. } => fault.kind == ListFaultKind::Memory,
-            SweepFault::TooMany => false,
+            _ => false,
         }
     }
 }

@@ -12,7 +12,7 @@ mod law;
 mod line;
 mod words;
 
-pub use asked::{Asked, asked_of};
+pub use asked::{Asked, Form, asked_of};
 pub use faults::SweepFault;
 pub use keys::{FRAMES_LIMITS, PAGE_RATE_LIMITS, SWAP_LIMITS, SweptKey, TAX_LIMITS};
 pub use law::law_words;

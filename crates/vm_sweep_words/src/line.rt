@@ -1,16 +1,29 @@
 //! How the program is called.
 use vm_words::{CommandLine, Flag, ValueKind, ValueWord};
 
-/// `vmsweep [--frames LIST] [--swap LIST] [--tax LIST] [--page-rate LIST] [--progress] [--workers N] < CONFIGURATION > SWEEP`
+/// `vmsweep [--frames LIST] [--swap LIST] [--tax LIST] [--page-rate LIST] [--guests | --svg] [--progress] [--workers N]
+/// < CONFIGURATION > SWEEP`
 pub const LINE: CommandLine = CommandLine {
     program: "vmsweep",
     takes: "CONFIGURATION",
     gives: "SWEEP",
-    flags: &[Flag {
-        name: "progress",
-        help: "Say on standard error how many runs have ended",
-        beside: None,
-    }],
+    flags: &[
+        Flag {
+            name: "guests",
+            help: "Write a record for each run and guest, in place of one for each run",
+            beside: Some("svg"),
+        },
+        Flag {
+            name: "svg",
+            help: "Write a drawing (SVG) in place of comma-separated values",
+            beside: Some("guests"),
+        },
+        Flag {
+            name: "progress",
+            help: "Say on standard error how many runs have ended",
+            beside: None,
+        },
+    ],
     values: &[
         ValueWord {
             name: "frames",

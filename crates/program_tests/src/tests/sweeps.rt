@@ -20,7 +20,8 @@ pub(super) const ADMISSION: &str =
 {\"name\":\"batch1\",\"size\":60,\"min\":4},{\"name\":\"batch2\",\"size\":60,\"min\":30}]}";
 
 // Five guests with drivers of several kinds.
-const DRIVERS: &str = "{\"version\":2,\"frames\":100,\"swap\":8,\"quantum\":7,\"epochs\":4,\
+pub(super) const DRIVERS: &str =
+    "{\"version\":2,\"frames\":100,\"swap\":8,\"quantum\":7,\"epochs\":4,\
 \"guests\":[{\"name\":\"tells\",\"size\":8,\"min\":4,\"trace\":[\"w 0 0 aa\",\"i\",\"i\",\"i\",\
 \"i\",\"i\",\"i\",\"r 6 0 2\",\"r 0 0 1\"]},{\"name\":\"early\",\"size\":8,\"min\":4,\
 \"tell\":false,\"trace\":[\"w 0 0 aa\",\"i\",\"i\",\"i\",\"i\",\"i\",\"i\",\"r 6 0 2\",\
@@ -34,7 +35,7 @@ const DRIVERS: &str = "{\"version\":2,\"frames\":100,\"swap\":8,\"quantum\":7,\"
 \"line\":\"dommemstat tells\"},{\"at\":2,\"line\":\"dommemstat stats\"}]}";
 
 // A guest that ends before the second epoch, and is started again at once or not at all.
-const RESTART: &str =
+pub(super) const RESTART: &str =
     "{\"version\":1,\"frames\":100,\"epochs\":2,\"guests\":[{\"name\":\"web\",\"size\":4,\"min\":4,\
 \"trace\":[\"w 0 0 ff\",\"r 0 0 4\"]}],\"commands\":[{\"at\":1,\"line\":\"destroy web\"},\
 {\"at\":1,\"line\":\"destroy web\"},{\"at\":1,\"line\":\"start web\"},{\"at\":1,\
@@ -122,11 +123,17 @@ fn one_configuration_runs_on_other_machines(rt: HostRuntime) {
     assert_record_with(&rt, config, 500, 50, record);
 }
 
+pub(super) const GUESTS_HEADER: &str =
+    "frames,swap,tax,page_rate,guest,epochs,revoked,paged,evicted,granted,blocked,stalls,done,left,\
+most_swapped,target,held,swapped,balloon\r\n";
+
 #[test]
 fn a_header_of_guests_names_the_fields(rt: HostRuntime) {
-    let header = "frames,swap,tax,page_rate,guest,epochs,revoked,paged,evicted,\
-granted,blocked,stalls,done,left,most_swapped,target,held,swapped,balloon\r\n";
-    assert_bytes(&rt, guests_header_text().as_bytes(), header.as_bytes());
+    assert_bytes(
+        &rt,
+        guests_header_text().as_bytes(),
+        GUESTS_HEADER.as_bytes(),
+    );
 }
 
 #[test]

@@ -17,7 +17,7 @@ const ADMISSION_RECORDS: &str = "400,50,75,16,0,0,1,0,5,2,1,0,0,0,0,0,0,0,0,0,0,
 500,100,75,16,1,0,0,0,20,0,1,0,0,0,19,0,0,0,0,0,0,0,no\r\n";
 
 // Runs the program for a configuration, and gives its status; what is said has to be this.
-fn ended<W: Sink>(
+pub(super) fn ended<W: Sink>(
     rt: &(impl Abort + AllocGlobal + Threads + Sync),
     words: &[&str],
     config: &str,
@@ -31,7 +31,7 @@ fn ended<W: Sink>(
 }
 
 // Asserts how the program ends for a configuration: its status, what it says, and what it writes.
-fn assert_end(
+pub(super) fn assert_end(
     rt: &(impl Abort + AllocGlobal + Threads + Sync),
     words: &[&str],
     config: &str,
@@ -172,7 +172,7 @@ fn a_failed_end_is_told(rt: HostRuntime) {
 }
 
 // So many bytes from the first on, or all.
-fn front(bytes: &[u8], length: usize) -> &[u8] {
+pub(super) fn front(bytes: &[u8], length: usize) -> &[u8] {
     &bytes[..length.min(bytes.len())]
 }
 

@@ -1,4 +1,5 @@
-use Rattle.std.proofs.Common.{◌≡◌, List, [], ◌∷◌, Some, refl, inl, inr, arith}
+use Rattle.std.proofs.Common.{◌≡◌, ℕ, ◌<◌, List, [], ◌∷◌, Some, refl, inl, inr, suc, zero, true≢false, arith}
+use Rattle.std.specs.List.Sorted.{IsStrictlyIncreasing}
 use Rattle.clap.specs.Words.{Text}
 use Rattle.clap.specs.declared.error.kind.ErrorKind.{ErrorKind}
 use Rattle.clap.proofs.OnLiterals.{clap_on_literals}
@@ -20,6 +21,10 @@ use Rattle.vm_sweep_words.proofs.law.law_words.Goals as goal
 has-fault : (kind : ErrorKind) (kinds : List ErrorKind) → kind ∷ kinds ≡ [] → ⊥
 has-fault kind kinds none = absurd cc
 
+two-rise : (a b : ℕ) → a < b → IsStrictlyIncreasing (a ∷ b ∷ [])
+two-rise a b less zero within = less
+two-rise a b less (suc k) within = absurd (omega arith)
+
 refused-for : (words : List Text) (fault : SweepFault) → AreTaken sweep_line (called words) → (IsMemory fault → ⊥)
     → IsRefusal (rows_of (called words)) fault → AreRefusedFor words fault
 refused-for words fault formed other first = record { formed = formed; first = first; untaken = untaken _ _ refl fault other first }
@@ -32,8 +37,10 @@ returns-clause-none c = record {
     lists = no_lists;
     read = refl;
     few = omega arith;
+    drawn = λ drawing. absurd cc;
   };
   lists_are = refl;
+  form_is = refl;
   progress_is = refl;
   workers_are = refl;
 }
@@ -46,36 +53,42 @@ returns-clause-lists c = record {
     lists = record no_lists { frames = Some (192 ∷ 224 ∷ 240 ∷ 256 ∷ []); tax = Some (0 ∷ 7500 ∷ []) };
     read = refl;
     few = omega arith;
+    drawn = λ drawing. absurd cc;
   };
   lists_are = refl;
+  form_is = refl;
   progress_is = refl;
   workers_are = refl;
 }
 
-pub returns-clause-progress : goal.returns-clause-progress
+pub returns-clause-guests : goal.returns-clause-guests
 unfolding clap_on_literals AreTaken asked command_line flag_option has_flag number_of text_of value_option sweep_line limits_of word_of given list_of item_of written_of range_written number_written values_of value_of digits_in hundredths_of spaced
-returns-clause-progress c = record {
+returns-clause-guests c = record {
   taken = record {
     formed = record { faultless = refl; apart = refl; fit = refl };
     lists = record no_lists { swap = Some (0 ∷ []); page_rate = Some (256 ∷ []) };
     read = refl;
     few = omega arith;
+    drawn = λ drawing. absurd cc;
   };
   lists_are = refl;
+  form_is = refl;
   progress_is = refl;
   workers_are = refl;
 }
 
-pub returns-clause-hundredths : goal.returns-clause-hundredths
+pub returns-clause-drawing : goal.returns-clause-drawing
 unfolding clap_on_literals AreTaken asked command_line flag_option has_flag number_of text_of value_option sweep_line limits_of word_of given list_of item_of written_of range_written number_written values_of value_of digits_in hundredths_of spaced
-returns-clause-hundredths c = record {
+returns-clause-drawing c = record {
   taken = record {
     formed = record { faultless = refl; apart = refl; fit = refl };
     lists = record no_lists { frames = Some (8 ∷ 16 ∷ []); tax = Some (25 ∷ 9999 ∷ []) };
     read = refl;
     few = omega arith;
+    drawn = λ drawing. record { several = omega arith; rising = two-rise 8 16 (omega arith); few = omega arith };
   };
   lists_are = refl;
+  form_is = refl;
   progress_is = refl;
   workers_are = refl;
 }
@@ -104,13 +117,25 @@ pub returns-clause-too_many : goal.returns-clause-too_many
 unfolding clap_on_literals AreTaken asked command_line flag_option has_flag number_of text_of value_option sweep_line limits_of word_of given list_of item_of written_of range_written number_written values_of value_of digits_in hundredths_of spaced
 returns-clause-too_many c = refused-for _ _ (record { faultless = refl; apart = refl; fit = refl }) (λ memory. memory) (inr (_, refl, omega arith))
 
-pub returns-clause-guests : goal.returns-clause-guests
-unfolding clap_on_literals AreTaken asked command_line flag_option has_flag number_of text_of value_option sweep_line limits_of word_of given list_of
-returns-clause-guests c = λ taken. absurd (has-fault _ _ taken.formed.faultless)
+pub returns-clause-no_machines : goal.returns-clause-no_machines
+unfolding clap_on_literals AreTaken asked command_line flag_option has_flag number_of text_of value_option sweep_line limits_of word_of given list_of item_of written_of range_written number_written values_of value_of digits_in hundredths_of spaced
+returns-clause-no_machines c = refused-for _ _ (record { faultless = refl; apart = refl; fit = refl }) (λ memory. memory) (inr (_, refl, (omega arith, refl, omega arith)))
 
-pub returns-clause-svg : goal.returns-clause-svg
+pub returns-clause-one_machine : goal.returns-clause-one_machine
+unfolding clap_on_literals AreTaken asked command_line flag_option has_flag number_of text_of value_option sweep_line limits_of word_of given list_of item_of written_of range_written number_written values_of value_of digits_in hundredths_of spaced
+returns-clause-one_machine c = refused-for _ _ (record { faultless = refl; apart = refl; fit = refl }) (λ memory. memory) (inr (_, refl, (omega arith, refl, omega arith)))
+
+pub returns-clause-same_machine : goal.returns-clause-same_machine
+unfolding clap_on_literals AreTaken asked command_line flag_option has_flag number_of text_of value_option sweep_line limits_of word_of given list_of item_of written_of range_written number_written values_of value_of digits_in hundredths_of spaced
+returns-clause-same_machine c = refused-for _ _ (record { faultless = refl; apart = refl; fit = refl }) (λ memory. memory) (inr (_, refl, (omega arith, refl, (omega arith, λ rising. let less = rising 0 (omega arith) in omega arith))))
+
+pub returns-clause-too_many_curves : goal.returns-clause-too_many_curves
+unfolding clap_on_literals AreTaken asked command_line flag_option has_flag number_of text_of value_option sweep_line limits_of word_of given list_of item_of written_of range_written number_written values_of value_of digits_in hundredths_of spaced
+returns-clause-too_many_curves c = refused-for _ _ (record { faultless = refl; apart = refl; fit = refl }) (λ memory. memory) (inr (_, refl, (omega arith, refl, (omega arith, two-rise 8 9 (omega arith), omega arith))))
+
+pub returns-clause-beside : goal.returns-clause-beside
 unfolding clap_on_literals AreTaken asked command_line flag_option has_flag number_of text_of value_option sweep_line limits_of word_of given list_of
-returns-clause-svg c = λ taken. absurd (has-fault _ _ taken.formed.faultless)
+returns-clause-beside c = λ taken. absurd (true≢false taken.formed.apart)
 
 pub returns-clause-twice : goal.returns-clause-twice
 unfolding clap_on_literals AreTaken asked command_line flag_option has_flag number_of text_of value_option sweep_line limits_of word_of given list_of

@@ -1,6 +1,6 @@
 use Rattle.std.proofs.Common.{◌≡◌, ◌∙◌, codes, map, string_bytes, ap, sym}
 use Rattle.vm_words.specs.Words.{has_flag}
-use Rattle.vm_sweep_words.specs.CommandLine.{rows_of, sweep_line, workers_of}
+use Rattle.vm_sweep_words.specs.CommandLine.{form_of, rows_of, sweep_line, workers_of}
 use Rattle.vm_sweep_words.specs.Lists.{lists_in, lists_of}
 use Rattle.vm_sweep_words.proofs.TakenLemmas.{passed-on, refused, some-of, taken}
 use Rattle.vm_sweep_words.proofs.words.read_words.Goals as goal
@@ -19,6 +19,12 @@ returns-in-Ok-clause-lists g c =
     let same : c.in_ok-request.request ≡ rows_of (map string_bytes c.args.words.now) = c.in_ok-request.ensures.asked in
     ap lists_of (sym same) ∙ c.in-Ok.ensures.lists
 
+pub returns-in-Ok-clause-form : goal.returns-in-Ok-clause-form
+unfolding sweep_line
+returns-in-Ok-clause-form g c =
+    let same : c.in_ok-request.request ≡ rows_of (map string_bytes c.args.words.now) = c.in_ok-request.ensures.asked in
+    c.in-Ok.ensures.form ∙ ap form_of same
+
 pub returns-in-Ok-clause-progress : goal.returns-in-Ok-clause-progress
 unfolding sweep_line
 returns-in-Ok-clause-progress g c =
@@ -35,8 +41,8 @@ pub returns-in-Ok-clause-taken : goal.returns-in-Ok-clause-taken
 unfolding sweep_line
 returns-in-Ok-clause-taken g c =
     let same : c.in_ok-request.request ≡ rows_of (map string_bytes c.args.words.now) = c.in_ok-request.ensures.asked in
-    taken _ c.in_ok-request.request same (lists_in c.in-Ok.asked) c.in_ok-request.ensures.taken c.in-Ok.ensures.lists
-    c.in-Ok.ensures.few
+    taken _ c.in_ok-request.request same c.in-Ok.asked.form (lists_in c.in-Ok.asked) c.in_ok-request.ensures.taken
+    c.in-Ok.ensures.lists c.in-Ok.ensures.form c.in-Ok.ensures.few c.in-Ok.ensures.drawn
 
 pub returns-clause-refused : goal.returns-clause-refused
 unfolding sweep_line

@@ -1,0 +1,22 @@
+-- What is told of runs.
+use Rattle.std.specs.Prelude.{◌≡◌, ℕ, List, string_bytes}
+use Rattle.vm_config.specs.declared.config.Config.{Config}
+use Rattle.vm_domains.specs.Domains.{names_of}
+use Rattle.vm_sweep.specs.declared.outcome.Detail.{Detail}
+use Rattle.vm_sweep.specs.declared.outcome.Detail.TheVariants.{Run, EachGuest}
+use Rattle.vm_sweep.specs.declared.outcome.Outcome.{Outcome}
+use Rattle.vm_sweep.specs.declared.outcome.Outcome.TheVariants.{InNumbers, AsRecords}
+use Rattle.vm_tally.specs.Combinations.{Values}
+use Rattle.vm_tally.specs.GuestSummary.{guest_summaries_of}
+use Rattle.vm_tally.specs.GuestTable.{guest_records}
+use Rattle.vm_tally.specs.Summary.{summary_of}
+
+-- the records of the guests of the run of a configuration, each with the name of its guest, behind these values
+abbrev pub guest_records_of : Values → Config → List ℕ
+guest_records_of values config = guest_records values (names_of config.domains) (guest_summaries_of config)
+
+-- this is told of the run of a configuration
+abbrev pub Tells : Detail → Values → Config → Outcome → Type 0
+Tells Run values config (InNumbers summary) = summary ≡ summary_of config
+Tells EachGuest values config (AsRecords text) = string_bytes text ≡ guest_records_of values config
+Tells _ values config _ = ⊥
