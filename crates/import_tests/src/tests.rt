@@ -1,4 +1,6 @@
 mod lackey;
+mod system;
+mod vmtrace;
 mod working_set;
 
 use std::alloc::Global;

@@ -1,0 +1,15 @@
+pub mod IntervalLemmas
+pub mod TraceLemmas
+pub mod GuestLemmas
+pub mod TextLemmas
+pub mod WayLemmas
+pub mod TakingLemmas
+pub mod WrittenLemmas
+pub mod ComposedLemmas
+pub mod ReadyLemmas
+pub mod TakenLemmas
+pub mod ImportLemmas
+pub mod DraftLemmas
+pub mod ReadLemmas
+pub mod CountLemmas
+pub mod BeginLemmas

@@ -1,0 +1,88 @@
+use Rattle.std.proofs.Common.{rules, ◌≡◌, ◌∙◌, ◌<◌, ◌==◌, inr, List, [], ◌∷◌, ◌++◌, None, Option, Some, false, length, ap, sym, subst, arith, length-append}
+use Rattle.vm_lackey.specs.declared.access.Access.{Access}
+use Rattle.vm_lackey.specs.Reading.{Gives, left, length_in_all}
+use Rattle.vm_import.specs.Errors.{error_of}
+use Rattle.vm_import.specs.Failing.{FailsBehind}
+use Rattle.vm_import.specs.Progress.{IsUnderWay, limit_of}
+use Rattle.vm_import.specs.Settings.{settings_of}
+use Rattle.vm_import.proofs.ComposedLemmas.{Stays-then}
+use Rattle.vm_import.proofs.ReadLemmas.{err-same, fails, goes-on, grows-more, passed-on, passes-limit, positive, short-within, told, within}
+use Rattle.vm_import.proofs.interval.read_accesses.Goals as goal
+
+pub returns-in_err-access-clause-failed : goal.returns-in_err-access-clause-failed
+returns-in_err-access-clause-failed g c =
+    passed-on c.from_residual.result (error_of c.in_err-access.field-0.0)
+    (λ error. (before : List Access)
+    → IsUnderWay (settings_of c.args.settings.now) before c.args.number [] c.args.progress.now.set c.args.progress.now.draft
+    → FailsBehind (settings_of c.args.settings.now) before (left c.args.log.now (g.R.Source.remaining c.args.reader.now))
+    (length_in_all c.args.log.now (g.R.Source.remaining c.args.reader.now)) (g.R.Source.has_failed c.next_access.new.source) error)
+    (λ before way.
+    let there = c.loop-count.invariant.goes before way in
+    fails (settings_of c.args.settings.now) before c.args.number c.args.settings.now.interval_in_range.0
+    (left c.args.log.now (g.R.Source.remaining c.args.reader.now)) (left c.loop-count.log (g.R.Source.remaining c.loop-count.reader))
+    (left c.loop-count.log (g.R.Source.remaining c.loop-count.reader)) there.0 c.loop-count.progress.set c.loop-count.progress.draft there.2
+    c.in_err-access.field-0.0 (length_in_all c.args.log.now (g.R.Source.remaining c.args.reader.now))
+    (length_in_all c.loop-count.log (g.R.Source.remaining c.loop-count.reader)) (g.R.Source.has_failed c.next_access.new.source)
+    c.loop-count.invariant.length
+    (λ line fault is. c.in_err-access.ensures.fault line fault (err-same _ _ is))
+    (λ is. c.in_err-access.ensures.failure (err-same _ _ is))
+    (λ is. inr (c.in_err-access.ensures.long (err-same _ _ is))))
+    c.from_residual.ensures.1
+
+pub returns-in-Some-2-clause-ends : goal.returns-in-Some-2-clause-ends
+returns-in-Some-2-clause-ends g c = λ before way.
+    let there = c.loop-count.invariant.goes before way in
+    let short : length there.0 < c.args.settings.now.interval = omega (arith, there.1) in
+    passes-limit (settings_of c.args.settings.now) before c.args.number c.args.settings.now.interval_in_range.0
+    (left c.args.log.now (g.R.Source.remaining c.args.reader.now)) (left c.loop-count.log (g.R.Source.remaining c.loop-count.reader))
+    (left c.next_access.new.self (g.R.Source.remaining c.next_access.new.source)) there.0 c.loop-count.progress.set
+    c.loop-count.progress.draft there.2 c.in-Some.access c.add.new.self.set c.add.new.self.draft
+    (subst (λ (found : Option Access). Gives (left c.loop-count.log (g.R.Source.remaining c.loop-count.reader))
+    (left c.next_access.new.self (g.R.Source.remaining c.next_access.new.source)) found) c.in-Some.is c.in_ok-access.ensures.gives)
+    short c.in_ok-limit.ensures.set c.in_ok-limit.ensures.kept c.in_ok-limit.ensures.draft c.in-Some-2.limit c.add.new.self.set
+    c.add.new.self.draft
+    (sym (told (settings_of c.args.settings.now) c.args.number c.loop-count.progress.set c.add.new.self.set c.loop-count.progress.draft
+    c.add.new.self.draft c.in_ok-limit.ensures.draft (c.loop-count.count == 0) c.in_ok-limit.field-0
+    (λ later. c.loop-count.invariant.fits (positive c.loop-count.count later)) c.in_ok-limit.ensures.limit)
+    ∙ c.in-Some-2.is)
+
+pub returns-in-Some-2-clause-grows : goal.returns-in-Some-2-clause-grows
+returns-in-Some-2-clause-grows g c =
+    grows-more (settings_of c.args.settings.now) c.args.number c.loop-count.progress.set c.add.new.self.set c.loop-count.progress.draft
+    c.add.new.self.draft c.in_ok-limit.ensures.draft c.args.progress.now.draft c.in_ok-limit.ensures.kept c.loop-count.invariant.grows
+
+pub loop-count-preserved : goal.loop-count-preserved
+loop-count-preserved g c =
+    let none : limit_of (settings_of c.args.settings.now) (length c.add.new.self.set.pages) c.add.new.self.draft ≡ None =
+    sym (told (settings_of c.args.settings.now) c.args.number c.loop-count.progress.set c.add.new.self.set c.loop-count.progress.draft
+    c.add.new.self.draft c.in_ok-limit.ensures.draft (c.loop-count.count == 0) c.in_ok-limit.field-0
+    (λ later. c.loop-count.invariant.fits (positive c.loop-count.count later)) c.in_ok-limit.ensures.limit)
+    ∙ c.in-None.is in
+    let small = within (settings_of c.args.settings.now) (length c.add.new.self.set.pages) c.add.new.self.draft
+    c.args.settings.now.quantum_in_range.0 none in
+    record {
+      goes = λ before way.
+          let there = c.loop-count.invariant.goes before way in
+          let short : length there.0 < c.args.settings.now.interval = omega (arith, there.1) in (
+            there.0 ++ c.in-Some.access ∷ [],
+            omega (arith, there.1, length-append there.0 (c.in-Some.access ∷ [])),
+            goes-on (settings_of c.args.settings.now) before c.args.number c.args.settings.now.interval_in_range.0
+                (left c.args.log.now (g.R.Source.remaining c.args.reader.now)) (left c.loop-count.log (g.R.Source.remaining c.loop-count.reader))
+                (left c.next_access.new.self (g.R.Source.remaining c.next_access.new.source)) there.0 c.loop-count.progress.set
+                c.loop-count.progress.draft there.2 c.in-Some.access c.add.new.self.set c.add.new.self.draft
+                (subst (λ (found : Option Access). Gives (left c.loop-count.log (g.R.Source.remaining c.loop-count.reader))
+                (left c.next_access.new.self (g.R.Source.remaining c.next_access.new.source)) found) c.in-Some.is c.in_ok-access.ensures.gives)
+                short c.in_ok-limit.ensures.set c.in_ok-limit.ensures.kept c.in_ok-limit.ensures.draft none,
+          );
+      fits = λ some. none;
+      pages = let more = c.in_ok-limit.ensures.pages in omega arith;
+      few = small.pages_few;
+      short = short-within (settings_of c.args.settings.now) (length c.add.new.self.set.pages) c.loop-count.progress.draft
+          c.add.new.self.draft _ c.args.settings.now.steps_in_range.1 small c.in_ok-limit.ensures.draft c.loop-count.invariant.short;
+      grows =
+          grows-more (settings_of c.args.settings.now) c.args.number c.loop-count.progress.set c.add.new.self.set
+          c.loop-count.progress.draft c.add.new.self.draft c.in_ok-limit.ensures.draft c.args.progress.now.draft
+          c.in_ok-limit.ensures.kept c.loop-count.invariant.grows;
+      length = Stays-then _ _ _ c.loop-count.invariant.length c.in_ok-access.ensures.length;
+      stays = search rules;
+    }

@@ -1,0 +1,15 @@
+pub mod Settings
+pub mod Touched
+pub mod Intervals
+pub mod Steps
+pub mod Guests
+pub mod Texts
+pub mod Drafts
+pub mod Limits
+pub mod Taking
+pub mod Errors
+pub mod Progress
+pub mod Failing
+pub mod Importing
+pub mod Imports
+pub mod Examples

@@ -1,0 +1,27 @@
+//! The names of guests.
+ghost use Rattle.std.specs.Prelude.{◌≡◌};
+ghost use Rattle.std.specs.List.{list_all};
+ghost use Rattle.vm_config.specs.Names.{is_name, is_name_byte};
+
+const MAX_NAME: usize = 32;
+
+fn is_name_byte(byte: u8) -> bool
+    ensures { result ≡ is_name_byte byte }
+{
+    byte.is_ascii_alphanumeric() || matches!(byte, b'_' | b'.' | b'-')
+}
+
+fn are_name_bytes(bytes: &[u8]) -> bool
+    ensures { result ≡ list_all is_name_byte bytes.now }
+{
+    bytes.iter().all(|byte| is_name_byte(*byte))
+}
+
+// Whether a configuration takes a text as the name of a guest: 1 to 32 letters, digits, `_`, `.` and `-`, of which the first is
+// no `-`.
+pub(crate) fn is_name(text: &str) -> bool
+    ensures { result ≡ is_name text.now }
+{
+    let bytes = text.as_bytes();
+    !bytes.is_empty() && bytes.len() <= MAX_NAME && bytes[0] != b'-' && are_name_bytes(bytes)
+}

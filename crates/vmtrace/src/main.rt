@@ -1,0 +1,11 @@
+//! Reads a log of valgrind's lackey from standard input, and writes a configuration with one guest that touches memory as the program
+//! did to standard output:
+//! `vmtrace [--name NAME] [--min PAGES] [--interval LINES] [--quantum STEPS] [--skip LINES] [--steps N] [--no-code]`.
+#![tactic(auto)]
+
+use std::process::ExitCode;
+use vm_import_program::vmtrace;
+
+fn main(rt: HostRuntime) -> ExitCode {
+    vmtrace(&rt)
+}
