@@ -6,11 +6,14 @@ use Rattle.vm_config.specs.Settings.{IsInRange, greatest_of, least_of}
 use Rattle.vm_lists.specs.declared.bounds.Limits.{Limits}
 use Rattle.vm_lists.specs.Lists.{IsWithin}
 
+value-in-range : (setting : Setting) (limits : Limits) → limits.least ≡ least_of setting → limits.greatest ≡ greatest_of setting
+    → (value : ℕ) → IsWithin limits value → IsInRange setting value
+value-in-range setting limits least greatest value within = record {
+  least = subst (λ (n : ℕ). n ≤ value) least within.least;
+  greatest = subst (λ (n : ℕ). value ≤ n) greatest within.greatest;
+}
+
 pub values_in_range : (setting : Setting) (limits : Limits) → limits.least ≡ least_of setting → limits.greatest ≡ greatest_of setting
     → (values : List ℕ) → All (IsWithin limits) values → All (IsInRange setting) values
 values_in_range setting limits least greatest values within = λ k d less.
-    let one = within k d less in
-    record {
-      least = subst (λ (n : ℕ). n ≤ _) least one.least;
-      greatest = subst (λ (n : ℕ). _ ≤ n) greatest one.greatest;
-    }
+    value-in-range setting limits least greatest _ (within k d less)
