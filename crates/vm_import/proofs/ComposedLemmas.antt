@@ -1,15 +1,15 @@
 -- What is taken of a log behind accesses is what is taken of it all.
-use Rattle.std.proofs.Common.{◌≡◌, ◌∙◌, ℕ, ◌+◌, ◌-◌, ◌≤◌, ◌^◌, ◌⊎◌, inl, inr, Bool, true, List, [], ◌∷◌, ◌++◌, drop, length, Option, Some, None, IfSome, Result, Ok, Err, refl, sym, ap, subst, arith, append_assoc}
+use Rattle.std.proofs.Common.{◌≡◌, ◌∙◌, ℕ, ◌+◌, ◌-◌, ◌≤◌, ◌^◌, inl, inr, Bool, List, [], ◌∷◌, ◌++◌, drop, Option, Some, None, IfSome, Result, refl, sym, ap, subst, arith, append_assoc}
 use Rattle.std.proofs.Math.Seq.{drop-nil}
 use Rattle.std.proofs.lemmas.List.{drop-drop}
 use Rattle.vm_lackey.specs.declared.access.Access.{Access}
 use Rattle.vm_lackey.specs.declared.faults.LineFault.{LineFault}
 use Rattle.vm_lackey.specs.Logs.{FaultAt, Log, log_of}
-use Rattle.vm_lackey.specs.Reading.{BeginsWithFault, Gives, Stays, beginning, left, length_in_all}
-use Rattle.vm_import.specs.Failing.{CantBeRead, FailsBehind, FailsToSkip, Skips, without}
+use Rattle.vm_lackey.specs.Reading.{BeginsWithFault, Gives, Stays, beginning, left}
+use Rattle.vm_import.specs.Failing.{CantBeRead, FailsBehind, Skips, without}
 use Rattle.vm_import.specs.Progress.{Reads, SameTaken, Takes}
 use Rattle.vm_import.specs.Settings.{Settings}
-use Rattle.vm_import.specs.Taking.{Taken, taken_behind}
+use Rattle.vm_import.specs.Taking.{Taken}
 use Rattle.vm_import.specs.declared.outcome.ImportError.{ImportError}
 use Rattle.vm_import.specs.declared.outcome.ImportError.TheVariants.{Line, Untouched, Read, Write, Memory}
 

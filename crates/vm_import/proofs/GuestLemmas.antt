@@ -2,17 +2,16 @@
 use Rattle.std.proofs.Common.{◌≡◌, ◌∙◌, ℕ, suc, ◌+◌, ◌*◌, ◌≤◌, List, [], ◌∷◌, ◌++◌, length, refl, sym, ap, arith, length-append}
 use Rattle.vm_lackey.specs.declared.access.Access.{Access}
 use Rattle.vm_working_set.specs.declared.touch.Touch.{Touch}
-use Rattle.vm_working_set.specs.declared.touch.RankedTouch.{RankedTouch}
 use Rattle.vm_working_set.specs.Kept.{first_touches}
 use Rattle.vm_working_set.specs.WorkingSets.{WorkingSetView, working_set}
-use Rattle.vm_import.specs.Guests.{Guest, guest_of}
-use Rattle.vm_import.specs.Intervals.{cut, intervals_of, kept_behind, kept_in, rounded_up}
+use Rattle.vm_import.specs.Guests.{guest_of}
+use Rattle.vm_import.specs.Intervals.{cut, intervals_of, kept_in, rounded_up}
 use Rattle.vm_import.specs.Progress.{guest_with, idle_next, kept_of}
 use Rattle.vm_import.specs.Settings.{Settings}
 use Rattle.vm_import.specs.Steps.{idle_steps, steps_of, trace_of}
 use Rattle.vm_import.specs.Touched.{touches_in}
 use Rattle.vm_import.proofs.IntervalLemmas.{kept_behind-more, length-cut, length-kept_behind, rounded_up-more, rounded_up-whole, touches_in-append}
-use Rattle.vm_import.proofs.TraceLemmas.{idle_next-more, trace_of-more}
+use Rattle.vm_import.proofs.TraceLemmas.{trace_of-more}
 
 pages_are : (before touches : List Touch) → (working_set before touches).pages ≡ first_touches (before ++ touches)
 unfolding working_set

@@ -1,5 +1,5 @@
 -- The accesses of an interval, one by one.
-use Rattle.std.proofs.Common.{◌≡◌, ◌∙◌, ◌⊎◌, inl, inr, ℕ, ◌+◌, ◌-◌, ◌*◌, ◌/◌, ◌==◌, ◌<◌, ◌≤◌, ◌^◌, Bool, true, false, nat_lt, if◌then◌else◌, List, [], ◌∷◌, ◌++◌, length, drop, map, Option, Some, None, Result, Ok, Err, IfErr, IsErrAnd, is_some, refl, sym, ap, subst, arith, length-append}
+use Rattle.std.proofs.Common.{◌≡◌, ◌∙◌, ◌⊎◌, inl, inr, ℕ, ◌+◌, ◌-◌, ◌*◌, ◌/◌, ◌==◌, ◌<◌, ◌≤◌, ◌^◌, Bool, true, false, nat_lt, if◌then◌else◌, List, [], ◌∷◌, ◌++◌, length, drop, Option, Some, None, Result, Ok, Err, IfErr, IsErrAnd, is_some, refl, sym, ap, subst, arith, length-append}
 use Rattle.std.proofs.Math.Nat.{lt-div-mul-add, mul-le-mul_right}
 use Rattle.std.proofs.Math.Seq.{drop-append_seam, drop-length}
 use Rattle.std.proofs.lemmas.Bool.Decides.{nat_tests}
@@ -16,11 +16,10 @@ use Rattle.vm_import.specs.Drafts.{DraftView, with_steps}
 use Rattle.vm_import.specs.Errors.{error_of}
 use Rattle.vm_import.specs.Failing.{CantBeRead, FailsBehind, FailsToSkip, Skips}
 use Rattle.vm_import.specs.Guests.{epochs_of, guest_of}
-use Rattle.vm_import.specs.Limits.{limit_passed, passed_by}
+use Rattle.vm_import.specs.Limits.{passed_by}
 use Rattle.vm_import.specs.Progress.{EndsSo, GoesOn, IsShort, IsUnderWay, Takes, is_taken, limit_of}
 use Rattle.vm_import.specs.Settings.{Settings}
 use Rattle.vm_import.specs.Steps.{idle_steps, step_of, steps_of}
-use Rattle.vm_import.specs.Taking.{Taken}
 use Rattle.vm_import.specs.Texts.{tail_of}
 use Rattle.vm_import.specs.Touched.{touched_by}
 use Rattle.vm_import.specs.declared.interval.IntervalEnd.{IntervalEnd}
@@ -28,7 +27,6 @@ use Rattle.vm_import.specs.declared.interval.IntervalEnd.TheVariants.{Full, Last
 use Rattle.vm_import.specs.declared.limits.Limit.{Limit}
 use Rattle.vm_import.specs.declared.limits.Limit.TheVariants.{Steps, Pages, Epochs, Bytes}
 use Rattle.vm_import.specs.declared.outcome.ImportError.{ImportError}
-use Rattle.vm_import.specs.declared.outcome.ImportError.TheVariants.{Line, Untouched, Read, Write, Memory}
 use Rattle.vm_import.proofs.ComposedLemmas.{cant-then, skips-ended, skips-fault, skips-more}
 use Rattle.vm_import.proofs.CountLemmas.{length-idle_steps}
 use Rattle.vm_import.proofs.DraftLemmas.{with_steps-none, with_steps-then}

@@ -1,7 +1,6 @@
 -- From interval to interval.
-use Rattle.std.proofs.Common.{◌≡◌, ◌∙◌, ℕ, suc, ◌+◌, ◌*◌, ◌≤◌, List, [], ◌∷◌, ◌++◌, length, map, take, drop, Option, refl, sym, ap, subst, arith, append_assoc, length-append}
+use Rattle.std.proofs.Common.{◌≡◌, ◌∙◌, ℕ, ◌+◌, ◌*◌, ◌≤◌, List, [], ◌∷◌, ◌++◌, length, take, refl, sym, ap, subst, arith, length-append}
 use Rattle.std.proofs.lemmas.List.{append-nil, take-append-le}
-use Rattle.std.specs.Io.KnownBytes.{Appends}
 use Rattle.vm_lackey.specs.declared.access.Access.{Access}
 use Rattle.vm_working_set.specs.declared.touch.RankedTouch.{RankedTouch}
 use Rattle.vm_working_set.specs.WorkingSets.{Begins, WorkingSetView, working_set}

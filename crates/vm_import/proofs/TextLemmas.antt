@@ -1,5 +1,5 @@
 -- Drafts, and the texts that they are of.
-use Rattle.std.proofs.Common.{◌≡◌, ◌∙◌, ℕ, zero, suc, ◌+◌, ◌-◌, ◌==◌, ◌≤◌, false, List, [], ◌∷◌, ◌++◌, codes, length, drop, if◌then◌else◌, refl, sym, ap, arith, append_assoc, length-append, length-drop}
+use Rattle.std.proofs.Common.{◌≡◌, ◌∙◌, ℕ, suc, ◌+◌, ◌-◌, ◌==◌, false, List, [], ◌∷◌, ◌++◌, codes, length, drop, if◌then◌else◌, refl, sym, ap, arith, append_assoc, length-append, length-drop}
 use Rattle.std.proofs.lemmas.Bool.Decides.{nat_tests}
 use Rattle.std.proofs.lemmas.List.{append-nil, drop-append-le}
 use Rattle.vm_import.specs.Drafts.{DraftView, listed_behind, with_steps}

@@ -1,7 +1,7 @@
 -- What is written of a draft, and what of its text that is.
-use Rattle.std.proofs.Common.{◌≡◌, ◌∙◌, ℕ, Bool, true, false, ◌+◌, ◌-◌, ◌==◌, ◌≤◌, List, [], ◌∷◌, ◌++◌, length, take, drop, if◌then◌else◌, Option, Some, None, refl, sym, ap, subst, arith, append_assoc, length-append, length-drop}
+use Rattle.std.proofs.Common.{◌≡◌, ◌∙◌, ℕ, Bool, true, false, ◌+◌, ◌-◌, ◌==◌, List, [], ◌++◌, length, take, if◌then◌else◌, Option, Some, None, sym, ap, subst, arith, append_assoc, length-drop}
 use Rattle.std.proofs.KnownBytes.{Appends-trans}
-use Rattle.std.proofs.lemmas.List.{append-nil, drop_all, take_all, take-append-drop, take-append-le}
+use Rattle.std.proofs.lemmas.List.{append-nil, drop_all, take_all, take-append-drop}
 use Rattle.std.specs.Io.KnownBytes.{Appends, Keeps}
 use Rattle.vm_streams.specs.Streams.{AppendsFront}
 use Rattle.vm_streams.proofs.StreamLemmas.{AppendsFront-longer, Appends-then_front}

@@ -1,5 +1,5 @@
 -- What is taken of a log, interval by interval, and what is written meanwhile. Of the sink it names the bytes before and after.
-use Rattle.std.specs.Prelude.{◌≡◌, ◌⊎◌, ℕ, ◌+◌, ◌-◌, ◌*◌, ◌==◌, ◌≤◌, ⊤, Bool, true, if◌then◌else◌, List, [], length, take, Option, Ok}
+use Rattle.std.specs.Prelude.{◌≡◌, ℕ, ◌==◌, Bool, true, if◌then◌else◌, List, [], length, take, Option, Ok}
 use Rattle.std.specs.Io.KnownBytes.{Appends}
 use Rattle.vm_lackey.specs.declared.access.Access.{Access}
 use Rattle.vm_lackey.specs.Logs.{Log}

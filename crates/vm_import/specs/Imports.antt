@@ -2,9 +2,8 @@
 use Rattle.std.specs.Prelude.{◌≡◌, ◌⊎◌, ℕ, ◌≤◌, ◌^◌, List, length, take, drop, Bool, true, false, Option, Ok, Err, IfSome}
 use Rattle.std.specs.Io.KnownBytes.{Appends, Keeps}
 use Rattle.vm_lackey.specs.declared.access.Access.{Access}
-use Rattle.vm_lackey.specs.Logs.{Log, log_of}
+use Rattle.vm_lackey.specs.Logs.{log_of}
 use Rattle.vm_streams.specs.Streams.{AppendsFront}
-use Rattle.vm_import.specs.Failing.{CantBeRead}
 use Rattle.vm_import.specs.Guests.{Guest, guest_of}
 use Rattle.vm_import.specs.Intervals.{intervals_of}
 use Rattle.vm_import.specs.Settings.{Settings}

@@ -1,5 +1,5 @@
 -- What was made of accesses, while a log is read.
-use Rattle.std.specs.Prelude.{◌≡◌, ℕ, ◌+◌, ◌*◌, ◌≤◌, ◌^◌, Bool, true, false, ⊤, List, [], ◌∷◌, ◌++◌, length, drop, Option, Some, None, IfSome, Result, Ok, Err}
+use Rattle.std.specs.Prelude.{◌≡◌, ℕ, ◌+◌, ◌*◌, ◌≤◌, ◌^◌, Bool, true, false, ⊤, List, [], ◌∷◌, ◌++◌, length, drop, Option, Some, None, IfSome, Result, Ok}
 use Rattle.vm_lackey.specs.declared.access.Access.{Access}
 use Rattle.vm_lackey.specs.Logs.{FaultAt, Log}
 use Rattle.vm_working_set.specs.declared.touch.RankedTouch.{RankedTouch}
@@ -7,7 +7,7 @@ use Rattle.vm_working_set.specs.WorkingSets.{WorkingSetView, working_set}
 use Rattle.vm_import.specs.Drafts.{DraftView}
 use Rattle.vm_import.specs.Guests.{Guest, guest_of}
 use Rattle.vm_import.specs.Intervals.{intervals_of, kept_in}
-use Rattle.vm_import.specs.Limits.{limit_passed, passed_by}
+use Rattle.vm_import.specs.Limits.{limit_passed}
 use Rattle.vm_import.specs.Settings.{Settings}
 use Rattle.vm_import.specs.Steps.{idle_behind, idle_steps, steps_of}
 use Rattle.vm_import.specs.Taking.{Taken, taken_behind}

@@ -1,5 +1,5 @@
 -- The configuration text of a guest.
-use Rattle.std.specs.Prelude.{ℕ, ◌-◌, List, ◌++◌, ◌∷◌, [], codes, length, map}
+use Rattle.std.specs.Prelude.{ℕ, ◌-◌, List, ◌++◌, codes, length, map}
 use Rattle.std.specs.Fmt.{decimal}
 use Rattle.std.specs.List.{join_with_byte}
 use Rattle.vm_import.specs.Guests.{Guest, epochs_of, frames_for, min_of}

@@ -1,4 +1,4 @@
-use Rattle.std.proofs.Common.{◌≡◌, ◌≤◌, subst, arith}
+use Rattle.std.proofs.Common.{◌≤◌, subst, arith}
 use Rattle.std.specs.Io.KnownBytes.{Appends}
 use Rattle.vm_lackey.specs.Reading.{Place, Stays, beginning, left, length_in_all}
 use Rattle.vm_streams.specs.Streams.{AppendsFront}

@@ -1,11 +1,10 @@
-use Rattle.std.proofs.Common.{rules, ◌≡◌, ◌∙◌, ℕ, List, ◌+◌, ◌*◌, ◌≤◌, ◌^◌, [], None, true, length, ap, refl, subst, sym, arith}
-use Rattle.vm_lackey.specs.Reading.{left, length_in_all}
+use Rattle.std.proofs.Common.{rules, ◌≡◌, ◌∙◌, ℕ, List, ◌+◌, ◌*◌, ◌≤◌, None, length, ap, refl, subst, sym, arith}
+use Rattle.vm_lackey.specs.Reading.{left}
 use Rattle.vm_import.specs.Drafts.{DraftView, with_steps}
 use Rattle.vm_import.specs.Importing.{AreTaken, IsStopped}
 use Rattle.vm_import.specs.Progress.{EndsSo, IfTaken, limit_of}
 use Rattle.vm_import.specs.Settings.{settings_of}
 use Rattle.vm_import.specs.Steps.{idle_steps, steps_of}
-use Rattle.vm_import.specs.declared.import.Taken.{Taken}
 use Rattle.vm_import.specs.declared.interval.IntervalEnd.{IntervalEnd}
 use Rattle.vm_import.specs.declared.interval.IntervalEnd.TheVariants.{Full}
 use Rattle.vm_import.proofs.BeginLemmas.{begun, no_pages, none_kept}

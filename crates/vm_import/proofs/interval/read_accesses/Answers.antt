@@ -1,4 +1,4 @@
-use Rattle.std.proofs.Common.{rules, ◌≡◌, ◌∙◌, ◌<◌, ◌==◌, inr, List, [], ◌∷◌, ◌++◌, None, Option, Some, false, length, ap, sym, subst, arith, length-append}
+use Rattle.std.proofs.Common.{rules, ◌≡◌, ◌∙◌, ◌<◌, ◌==◌, inr, List, [], ◌∷◌, ◌++◌, None, Option, length, sym, subst, arith, length-append}
 use Rattle.vm_lackey.specs.declared.access.Access.{Access}
 use Rattle.vm_lackey.specs.Reading.{Gives, left, length_in_all}
 use Rattle.vm_import.specs.Errors.{error_of}

@@ -1,4 +1,4 @@
-use Rattle.std.proofs.Common.{rules, ◌≡◌, inr, is_none, true, false, arith}
+use Rattle.std.proofs.Common.{rules, inr, arith}
 use Rattle.vm_lackey.specs.Reading.{left, length_in_all}
 use Rattle.vm_import.specs.Errors.{error_of}
 use Rattle.vm_import.specs.Failing.{FailsToSkip}

@@ -1,4 +1,4 @@
-use Rattle.std.proofs.Common.{◌≡◌, ◌∙◌, ◌++◌, List, ℕ, codes, ap, arith}
+use Rattle.std.proofs.Common.{◌∙◌, ◌++◌, List, ℕ, codes, ap, arith}
 use Rattle.vm_import.specs.Steps.{step_of}
 use Rattle.vm_import.proofs.DraftLemmas.{with_one}
 use Rattle.vm_import.proofs.draft.Draft.push_touch.Goals as goal
