@@ -1,6 +1,5 @@
 use Rattle.std.proofs.Common.{◌≡◌, List, [], ◌∷◌, refl}
 use Rattle.clap.proofs.OnLiterals.{clap_on_literals}
-use Rattle.clap.specs.Words.{Text}
 use Rattle.clap.specs.declared.error.kind.ErrorKind.{ErrorKind}
 use Rattle.vm_words.specs.Words.{AreTaken as AreTakenBy, asked, command_line, flag_option, has_flag, number_of, text_of, value_option}
 use Rattle.vm_import_words.specs.CommandLine.{trace_line}
