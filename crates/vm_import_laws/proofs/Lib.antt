@@ -1,0 +1,9 @@
+pub mod TokenLemmas
+pub mod SafeLemmas
+pub mod JsonLemmas
+pub mod TextLemmas
+pub mod TakenLemmas
+pub mod RankLemmas
+pub mod StepLemmas
+pub mod ConfigLemmas
+pub mod LawLemmas
