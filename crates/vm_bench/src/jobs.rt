@@ -4,6 +4,7 @@ use crate::day::day;
 use crate::digest::Digest;
 use crate::drivers::drivers;
 use crate::fleet::fleet;
+use crate::import::import;
 use crate::months::months;
 use crate::policy::policy;
 use crate::series::series;
@@ -23,10 +24,11 @@ pub enum Job {
     Awkward,
     Series,
     Sweep,
+    Import,
 }
 
 /// All jobs.
-pub const JOBS: [Job; 8] = [
+pub const JOBS: [Job; 9] = [
     Job::Day,
     Job::Months,
     Job::Fleet,
@@ -35,6 +37,7 @@ pub const JOBS: [Job; 8] = [
     Job::Awkward,
     Job::Series,
     Job::Sweep,
+    Job::Import,
 ];
 
 impl Job {
@@ -49,13 +52,14 @@ impl Job {
             Job::Awkward => "awkward",
             Job::Series => "series",
             Job::Sweep => "sweep",
+            Job::Import => "import",
         }
     }
 
     /// Whether the word `all` stands for it too. It does not for [`Job::Series`], since `policy` makes the same calls, and not for
-    /// [`Job::Sweep`], whose table the stored run of `vmsweep` shows.
+    /// [`Job::Sweep`] and [`Job::Import`], since the stored runs of `vmsweep` and `vmtrace` show what they make.
     pub fn is_in_all(self) -> bool {
-        !matches!(self, Job::Series | Job::Sweep)
+        !matches!(self, Job::Series | Job::Sweep | Job::Import)
     }
 
     /// Does it on inputs of this seed, and gives the digest of its results. `part` is how many times smaller the inputs are.
@@ -76,6 +80,7 @@ impl Job {
             Job::Awkward => awkward(rt, alloc, seed, part, &mut digest)?,
             Job::Series => series(rt, alloc, seed, part, &mut digest)?,
             Job::Sweep => sweep(rt, alloc, seed, part, &mut digest)?,
+            Job::Import => import(alloc, seed, part, &mut digest)?,
         }
         Ok(digest)
     }

@@ -4,8 +4,10 @@ ghost use Rattle.std.specs.Prelude.{◌<◌, ◌≤◌};
 use crate::digest::Digest;
 use crate::text::{Draft, Machine, Text};
 use std::alloc::Global;
+use std::io::Read;
 use std::thread::Threads;
 use vm_charts::svg_text;
+use vm_import::{ImportError, ImportSettings, import_log};
 use vm_series::{Series, collect_series, csv_text};
 use vm_sim::{Open, RunError, Watched, run};
 use vm_sweep::{Lists, Progress, sweep};
@@ -100,4 +102,28 @@ pub fn sweep_of<RT: Threads + Sync>(
         &Silent,
         &mut writer,
     )
+}
+
+// Of a made log no line is refused, and some page is touched.
+fn run_error_of(error: ImportError) -> RunError {
+    match error {
+        ImportError::Line { .. } | ImportError::Untouched(_) | ImportError::Read => RunError::Read,
+        ImportError::Write => RunError::Write,
+        ImportError::Memory => RunError::Memory,
+    }
+}
+
+/// The guest that a log makes, put into a digest.
+pub fn import_of<R: Read + Drop>(
+    alloc: Global,
+    settings: &ImportSettings,
+    log: R,
+    digest: &mut Digest,
+) -> Result<(), RunError> {
+    let mut reader = Watched::new(log);
+    let mut writer = Watched::new(digest);
+    match import_log(alloc, settings, &mut reader, &mut writer) {
+        Ok(_) => Ok(()),
+        Err(error) => Err(run_error_of(error)),
+    }
 }
