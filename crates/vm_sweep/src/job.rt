@@ -6,6 +6,7 @@ ghost use Rattle.vm_sweep.specs.Outcomes.{Tells};
 ghost use Rattle.vm_tally.specs.Combinations.{configured};
 
 use crate::outcome::{Detail, Outcome, run_told};
+use crate::small_blocks::SmallBlocks;
 use std::alloc::Global;
 use std::marker::Model;
 use std::snapshot::Snapshot;
@@ -99,7 +100,10 @@ fn run_in(place: &mut Workplace, detail: Detail, combination: &Combination) -> O
 {
     let mut config = place.config.take()?;
     combination.apply(&mut config);
-    match run_told(place.alloc, detail, combination, config) {
+    let blocks = SmallBlocks::take(place.alloc);
+    let ran = run_told(place.alloc, detail, combination, config);
+    blocks.replace_kept(place.alloc);
+    match ran {
         Ok((outcome, config)) => {
             place.config = Some(config);
             Some(outcome)

@@ -13,6 +13,7 @@ mod lists;
 mod outcome;
 mod progress;
 mod rounds;
+mod small_blocks;
 mod sweeping;
 
 pub use drawing::draw_sweep;
