@@ -1,5 +1,6 @@
 pub mod Virtio
 pub mod Statistics
+pub mod Tags
 pub mod StatsOf
 pub mod Service
 pub mod Posted

@@ -3,7 +3,7 @@ ghost use Rattle.std.specs.Int.{w16, w32, w64, from_le_bytes, to_le_bytes};
 ghost use Rattle.vm_balloon.specs.Virtio.{page_number, page_numbers, stat_entry, stat_entries};
 
 // The bytes of a page number in a page buffer.
-const PAGE_BYTES: usize = 4;
+const PAGE_NUMBER_BYTES: usize = 4;
 
 // The bytes of an entry in a statistics buffer.
 const STAT_BYTES: usize = 10;
@@ -54,7 +54,7 @@ pub fn stat_at(bytes: &[u8], i: usize) -> Option<(u16, u64)>
 pub(crate) fn page_count(bytes: &[u8]) -> usize
     ensures { result ≡ length bytes.now / 4 }
 {
-    bytes.len() / PAGE_BYTES
+    bytes.len() / PAGE_NUMBER_BYTES
 }
 
 /// How many entries a statistics buffer has.
@@ -69,7 +69,7 @@ pub(crate) fn page_number(bytes: &[u8], i: usize) -> u32
     requires { i < length bytes.now / 4 }
     ensures { result ≡ page_number bytes.now i }
 {
-    let at = PAGE_BYTES * i;
+    let at = PAGE_NUMBER_BYTES * i;
     le_u32(&bytes[at..at + 4])
 }
 

@@ -1,13 +1,15 @@
 -- The drawing of a series: its state, its free frames, the targets of its guests, and the pages of all guests that are swapped out and
 -- ballooned, each over the epochs.
 use Rattle.std.specs.Prelude.{ℕ, List, [], ◌∷◌, ◌++◌, codes, if◌then◌else◌, is_some, false, true, length}
-use Rattle.std.specs.Fmt.{decimal}
 use Rattle.std.specs.List.{flat_map, list_any, range_with_len}
+use Rattle.vm_plan.specs.declared.state.State.TheVariants.{Low, Hard, Soft, High}
+use Rattle.vm_plan.specs.State.{state_word}
 use Rattle.vm_series.specs.Csv.{name_at}
 use Rattle.vm_series.specs.Rows.{Row, Rows}
 use Rattle.vm_drawing.specs.declared.scale.Axis.{Axis}
 use Rattle.vm_charts.specs.declared.samples.Measure.TheVariants.{State, Free, Target, Total}
 use Rattle.vm_charts.specs.declared.samples.Pages.TheVariants.{SwappedOut, Ballooned}
+use Rattle.vm_drawing.specs.Counts.{counted}
 use Rattle.vm_drawing.specs.Drawing.{Chart, Curve, Drawing, level_curve}
 use Rattle.vm_charts.specs.Samples.{samples}
 
@@ -15,7 +17,7 @@ abbrev pub state_chart : List Row → Chart
 state_chart rows = record {
   title = codes "1. State of the host";
   unit = codes "state";
-  words = codes "low" ∷ codes "hard" ∷ codes "soft" ∷ codes "high" ∷ [];
+  words = state_word Low ∷ state_word Hard ∷ state_word Soft ∷ state_word High ∷ [];
   curves = level_curve 0 (codes "state") (samples State rows) ∷ [];
   is_keyed = false;
 }
@@ -56,8 +58,8 @@ page_chart rows = record {
 
 unfoldable pub note_of : Rows → List ℕ
 note_of s =
-    decimal (length s.rows) ++ (codes " epochs, " ++ (decimal (length s.names) ++ (codes " guests, " ++ (decimal s.frames
-    ++ codes " frames; a frame and a page have 4096 bytes"))))
+    counted (length s.rows) (codes "epoch") ++ (codes ", " ++ (counted (length s.names) (codes "guest") ++ (codes ", "
+    ++ (counted s.frames (codes "frame") ++ codes "; a frame and a page have 4096 bytes"))))
 
 -- an epoch begins at its place
 abbrev pub epoch_axis : ℕ → Axis

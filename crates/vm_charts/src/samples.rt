@@ -1,11 +1,10 @@
 // What is seen of a host epoch by epoch, as numbers.
 ghost use Rattle.std.specs.Prelude.{◌≡◌, is_some, IfOk};
 ghost use Rattle.std.specs.List.{list_any};
-ghost use Rattle.vm_plan.specs.State.{rank};
 ghost use Rattle.vm_charts.specs.Samples.{pages_in, pages_of, sample, samples, total};
 
 use std::alloc::{AllocError, Global};
-use vm_host::{GuestView, State};
+use vm_host::GuestView;
 use vm_series::EpochRow;
 
 // Where a guest's pages are that aren't in its memory.
@@ -26,17 +25,6 @@ pub(crate) enum Measure {
     Target(usize),
     // pages of all running guests
     Total(Pages),
-}
-
-fn rank(state: State) -> u64
-    ensures { result ≡ rank state }
-{
-    match state {
-        State::Low => 0,
-        State::Hard => 1,
-        State::Soft => 2,
-        State::High => 3,
-    }
 }
 
 fn pages_of(pages: Pages, view: &GuestView) -> u32
@@ -74,7 +62,7 @@ pub(crate) fn sample(row: &EpochRow, measure: Measure) -> Option<u64>
     ensures { result ≡ sample measure row.now }
 {
     match measure {
-        Measure::State => Some(rank(row.state())),
+        Measure::State => Some(u64::from(row.state().rank())),
         Measure::Free => Some(u64::from(row.free())),
         Measure::Target(position) => row.view(position).map(|view| u64::from(view.target)),
         Measure::Total(pages) => Some(total(pages, row)),

@@ -1,6 +1,8 @@
 //! The drawing of a series.
-ghost use Rattle.std.specs.Prelude.{◌≡◌, ◌++◌, ◌∷◌, [], IfOk, OnOk, codes, length, map, string_bytes};
+ghost use Rattle.std.specs.Prelude.{◌≡◌, ◌++◌, ◌∷◌, [], IfOk, OnOk, length, map, string_bytes};
 ghost use Rattle.std.specs.List.{flat_map, range_with_len};
+ghost use Rattle.vm_plan.specs.declared.state.State.TheVariants.{Low, Hard, Soft, High};
+ghost use Rattle.vm_plan.specs.State.{state_word};
 ghost use Rattle.vm_series.specs.Csv.{name_at};
 ghost use Rattle.vm_drawing.specs.Drawing.{level_curve};
 ghost use Rattle.vm_drawing.specs.Picture.{svg_of};
@@ -9,7 +11,8 @@ ghost use Rattle.vm_charts.specs.Series.{drawing_of, epoch_axis, free_chart, not
 
 use crate::samples::{Measure, Pages, has_values, samples};
 use std::alloc::{AllocError, Global};
-use vm_drawing::{Axis, Chart, Curve, Drawing, draw};
+use vm_drawing::{Axis, Chart, Curve, Drawing, counted, draw};
+use vm_plan::State;
 use vm_series::{EpochRow, Series};
 
 fn name_at(names: &[String], position: usize) -> &str
@@ -35,15 +38,16 @@ fn curve(
     Ok(Curve::level(number, String::from_str(alloc, name)?, values))
 }
 
+// The words of the states, from the lowest.
 fn state_words(alloc: Global) -> Result<Vec<String>, AllocError>
     ensures { IfOk result (λ words. map string_bytes words.items
-        ≡ codes "low" ∷ codes "hard" ∷ codes "soft" ∷ codes "high" ∷ []) }
+        ≡ state_word Low ∷ state_word Hard ∷ state_word Soft ∷ state_word High ∷ []) }
 {
     let mut words = Vec::new(alloc);
-    words.push(String::from_str(alloc, "low")?)?;
-    words.push(String::from_str(alloc, "hard")?)?;
-    words.push(String::from_str(alloc, "soft")?)?;
-    words.push(String::from_str(alloc, "high")?)?;
+    words.push(String::from_str(alloc, State::Low.as_str())?)?;
+    words.push(String::from_str(alloc, State::Hard.as_str())?)?;
+    words.push(String::from_str(alloc, State::Soft.as_str())?)?;
+    words.push(String::from_str(alloc, State::High.as_str())?)?;
     Ok(words)
 }
 
@@ -124,11 +128,10 @@ fn page_chart(alloc: Global, rows: &[EpochRow]) -> Result<Chart, AllocError>
 fn note_of(alloc: Global, series: &Series) -> Result<String, AllocError>
     ensures { IfOk result (λ note. string_bytes note ≡ note_of series.now) }
 {
-    let (epochs, guests) = (series.rows().len(), series.names().len());
-    let frames = series.frames();
-    format!(in alloc;
-        "{epochs} epochs, {guests} guests, {frames} frames; a frame and a page have 4096 bytes"
-    )
+    let epochs = counted(alloc, series.rows().len(), "epoch")?;
+    let guests = counted(alloc, series.names().len(), "guest")?;
+    let frames = counted(alloc, series.frames() as usize, "frame")?;
+    format!(in alloc; "{epochs}, {guests}, {frames}; a frame and a page have 4096 bytes")
 }
 
 fn charts_of(alloc: Global, series: &Series) -> Result<Vec<Chart>, AllocError>

@@ -2,6 +2,7 @@
 ghost use Rattle.std.specs.Prelude.{◌≡◌, ◌≤◌};
 ghost use Rattle.vm_command_line.specs.Words.{HasWorkersInRange, workers_asked};
 
+use vm_sim::MAX_WORKERS;
 use vm_words::{Request, ValueKind, ValueWord};
 
 /// `--workers N`, with N from 1 to 64.
@@ -11,7 +12,7 @@ pub const WORKERS: ValueWord = ValueWord {
     help: "On how many threads the guests run, 1 to 64",
     kind: ValueKind::Number {
         least: 1,
-        greatest: 64,
+        greatest: MAX_WORKERS as u64,
     },
 };
 

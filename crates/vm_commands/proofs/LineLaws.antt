@@ -1,5 +1,5 @@
 -- A line is read as a command, or refused, exactly where the grammar has it so.
-use Rattle.std.proofs.Common.{◌≡◌, ℕ, ◌⊎◌, ◌↔◌, inl, inr, List, Result, Ok, Err, IfOk, IsErrOf, IsOk, refl, ap, sym, subst, ◌∙◌}
+use Rattle.std.proofs.Common.{◌≡◌, ◌≢◌, ℕ, ◌⊎◌, ◌↔◌, inl, inr, List, Result, Ok, Err, IfOk, IsErrOf, IsOk, refl, ap, sym, subst, ◌∙◌}
 use Rattle.vm_commands.specs.declared.command.Command.{Command}
 use Rattle.vm_commands.specs.declared.error.LineFault.{LineFault}
 use Rattle.vm_commands.specs.declared.error.LineFault.TheVariants.{Bad, Size, Memory}
@@ -80,6 +80,15 @@ HasNoForm-from_read line read = λ form of_form.
       | inl asks ↦ (let asked = meaning_of-asks form asks.0 asks.1 in cc)
       | inr size ↦ cc
     ]
+
+pub command_of-no_memory : (line : List ℕ) → command_of line ≢ Err Memory
+command_of-no_memory line read = elim (cases_of_line line) [
+  | inl is ↦ (let is_read = command_of-line line is.0 is.1 in cc)
+  | inr other ↦ elim other [
+    | inl unreadable ↦ (let size = command_of-unreadable line unreadable in cc)
+    | inr bad ↦ cc
+  ]
+]
 
 -- ---- the same of an answer
 

@@ -1,4 +1,4 @@
--- The command that a line is, or its fault. The commands are those of the `virsh` manual, and `memshares`.
+-- The command that a line is, or its fault: what LineGrammar has as facts, as functions that compute it.
 use Rattle.std.specs.Prelude.{ℕ, ◌==◌, ◌&&◌, ◌≡◌, ◌⊎◌, Bool, not, nat_eq, nat_le, if◌then◌else◌, List, [], ◌∷◌, length, drop, codes, bytes_eq, filter, Option, Some, None, Result, Ok, Err, IsOk, MatchResult}
 use Rattle.std.specs.Option.{option_map_or}
 use Rattle.std.specs.List.{slice_split, starts_with, list_all}
@@ -9,6 +9,8 @@ use Rattle.vm_commands.specs.declared.command.Command.TheVariants.{Start, Destro
 use Rattle.vm_commands.specs.declared.error.LineFault.{LineFault}
 use Rattle.vm_commands.specs.declared.error.LineFault.TheVariants.{Bad, Size, Memory}
 use Rattle.vm_commands.specs.Sizes.{pages_of_size}
+
+-- ---- the same as functions (law_lines)
 
 -- the words of a line: the longest runs of bytes other than spaces
 abbrev pub words_of : List ℕ → List (List ℕ)
@@ -83,9 +85,11 @@ command_of_words (kind ∷ a ∷ b ∷ []) = sized_command kind a b
 command_of_words (kind ∷ a ∷ b ∷ c ∷ []) = tune_command kind a b c
 command_of_words _ = Err Bad
 
--- the command of a line
+-- the one command or fault that is such: IsLine, IsUnreadable, HasNoForm, by vm_commands::law_lines
 unfoldable pub command_of : List ℕ → Result Command LineFault
 command_of line = command_of_words (words_of line)
+
+-- ---- answers
 
 -- a fault is that of the meaning; only a command is ever given up for want of memory
 abbrev pub IsFaultOf : Result Command LineFault → LineFault → Type 0

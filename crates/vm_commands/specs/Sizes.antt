@@ -1,8 +1,10 @@
--- The sizes of command lines: decimal digits and a unit. The units are those of the `virsh` manual, `setmem`.
+-- The pages of a size: what SizeGrammar has as facts, as functions that compute it.
 use Rattle.std.specs.Prelude.{ℕ, ◌+◌, ◌*◌, ◌/◌, ◌^◌, ◌&&◌, ◌||◌, Bool, nat_lt, nat_le, if◌then◌else◌, List, take, drop, map, codes, bytes_eq, Option, Some, None, option_and_then}
 use Rattle.std.specs.List.{prefix_len}
 use Rattle.std.specs.Char.{is_ascii_digit, to_ascii_lowercase}
 use Rattle.std.specs.Str.Parse.{digits_value}
+
+-- ---- the same as functions (law_sizes)
 
 infixl 10 ◌>>=◌
 abbrev pub ◌>>=◌ : {A B : Type 0} → Option A → (A → Option B) → Option B
@@ -43,7 +45,7 @@ bytes_of_size text =
 abbrev pub pages_of_bytes : ℕ → ℕ
 pages_of_bytes bytes = ((bytes + 1023) / 1024 + 3) / 4
 
--- the pages of a size
+-- the one number of pages that is such: IsSize, by vm_commands::law_sizes
 unfoldable pub pages_of_size : List ℕ → Option ℕ
 pages_of_size text = do
   bytes ← bytes_of_size text

@@ -260,9 +260,9 @@ abbrev fault_in_or : Fault → Option Fault → Fault
 fault_in_or f None = f
 fault_in_or f (Some g) = g
 
-told_by : {A : Type 0} (located : Result A Fault) (f : Fault) → fault_in located ≡ Some f → located ≡ Err f
-told_by (Ok x) f is = absurd (true≢false (sym (ap is_some is)))
-told_by (Err g) f is = ap Err (ap (fault_in_or g) is)
+history_by : {A : Type 0} (located : Result A Fault) (f : Fault) → fault_in located ≡ Some f → located ≡ Err f
+history_by (Ok x) f is = absurd (true≢false (sym (ap is_some is)))
+history_by (Err g) f is = ap Err (ap (fault_in_or g) is)
 
 -- a fault that is told at a guest stands there
 pub told_guest : (bytes : List ℕ) (answer : Result (Option Fault) AllocError)
@@ -271,5 +271,5 @@ pub told_guest : (bytes : List ℕ) (answer : Result (Option Fault) AllocError)
     → found ≡ Some (record { error = error; place = place.Key (Guest number) key }) → StandsAtGuest bytes number error)
 told_guest bytes (Ok found) is = λ number key error has.
     config_first bytes (record { error = error; place = place.Key (Guest number) key }) refl
-    (told_by (config_at bytes) _ (sym is ∙ has))
+    (history_by (config_at bytes) _ (sym is ∙ has))
 told_guest bytes (Err e) is = tt

@@ -29,17 +29,17 @@ kind_at place.Text = Some (codes "the text" ++ codes ": not an object")
 kind_at (place.Key part key) = None
 
 -- the error at a place; where its words are those of the error alone, which are derived, no clause tells them
-abbrev pub told_at : Place → ConfigError → Option (List ℕ)
-told_at p NotJson = None
-told_at p Missing = None
-told_at p Kind = kind_at p
-told_at p Range = None
-told_at p Name = None
-told_at p Twice = None
-told_at p (Trace guest number fault) =
+abbrev pub report_at : Place → ConfigError → Option (List ℕ)
+report_at p NotJson = None
+report_at p Missing = None
+report_at p Kind = kind_at p
+report_at p Range = None
+report_at p Name = None
+report_at p Twice = None
+report_at p (Trace guest number fault) =
     Some (text_of p ++ (codes ": step " ++ (decimal number ++ (codes ": " ++ step.text_of fault))))
-told_at p Memory = None
+report_at p Memory = None
 
 -- a fault
 abbrev pub told : Fault → Option (List ℕ)
-told fault = told_at fault.place fault.error
+told fault = report_at fault.place fault.error

@@ -35,6 +35,7 @@ pub use config::{Config, ConfigV1};
 pub use error::ConfigError;
 pub use fault::Fault;
 pub use migration::migrate;
+pub use names::is_name;
 pub use place::{Key, Part, Place};
 pub use reading::{explain, read_config, read_config_v1};
 pub use schedule::{Schedule, Scheduled};

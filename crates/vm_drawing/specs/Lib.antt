@@ -2,6 +2,7 @@ pub mod Values
 pub mod Scale
 pub mod Round
 pub mod Drawing
+pub mod Counts
 pub mod Curves
 pub mod Shapes
 pub mod Picture

@@ -6,6 +6,7 @@
 #![tactic(auto)]
 
 mod area;
+mod counts;
 mod drawing;
 mod law;
 mod picture;
@@ -13,6 +14,7 @@ mod scale;
 mod texts;
 mod values;
 
+pub use counts::counted;
 pub use drawing::{Chart, Curve, Drawing};
 pub use law::{law_round, law_stacked};
 pub use picture::draw;

@@ -33,6 +33,7 @@ pub mod SlotLemmas
 pub mod SoundLemmas
 pub mod StartLemmas
 pub mod StepLemmas
+pub mod TakenLemmas
 pub mod Validation
 pub mod WordLemmas
 pub mod WrittenLemmas

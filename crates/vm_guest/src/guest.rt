@@ -1,8 +1,8 @@
 ghost use Rattle.std.specs.Prelude.{◌≡◌, ◌+◌, ◌-◌, ◌<◌, ◌≤◌, ◌↔◌, ◌^◌, IsTrue, IsSome, IfOk, IfErr, IfSome, OnOk, OnErr, length, min, true, false};
 ghost use Rattle.std.specs.Bool.{OnTrue, OnFalse};
 ghost use Rattle.std.specs.FinSet as set;
-ghost use Rattle.vm_guest.specs.Boundary.{granted, lowered, ordered, released, revoked, serviced, spares_over, with_cap, with_grants, with_min, with_shares, with_spare, without_spares};
-ghost use Rattle.vm_guest.specs.Frames.{GivesOut, TakesBack, TakesBackSome, with_frame};
+ghost use Rattle.vm_guest.specs.Boundary.{granted, lowered, ordered, released, revoked, serviced, spares_over, with_cap, with_frames, with_grants, with_min, with_shares, with_spare, without_spares};
+ghost use Rattle.vm_guest.specs.Frames.{GivesOut, GivesOutSome, TakesBack, TakesBackSome, with_frame};
 ghost use Rattle.vm_guest.specs.Good.{HasNothingPosted};
 ghost use Rattle.vm_guest.specs.Memory.{bytes_of};
 ghost use Rattle.vm_guest.specs.Record.{reserve, steps_left};
@@ -201,7 +201,7 @@ impl Guest {
         self.parts.allotment.demand -= 1;
     }
 
-    /// Raises the target by so many frames that the guest asked for. Where it holds fewer then, frames have to come to it (`add_spare`).
+    /// Raises the target by so many frames that the guest asked for. Where it holds fewer then, frames have to come to it (`add_spares`).
     pub fn raise_target(&mut self, count: u32)
         requires demand { count ≤ self.old.guest.allotment.demand }
         requires room { self.old.guest.allotment.target + count ≤ self.old.guest.allotment.cap }
@@ -222,6 +222,20 @@ impl Guest {
         ensures prepared { self.new.prepared ≡ self.old.prepared }
     {
         self.parts.memory.add_spare(frame);
+    }
+
+    /// So many frames, which the machine has free, join the spares of a guest that holds as many fewer than its target.
+    pub fn add_spares(&mut self, count: u32, machine: &mut Machine)
+        requires few { count ≤ self.old.guest.allotment.target - self.old.guest.memory.held }
+        requires enough { set.len machine.old.out + count ≤ machine.old.total }
+        requires out { IsTrue (set.is_subset self.old.frames machine.old.out) }
+        ensures record { self.new.guest ≡ with_frames self.old.guest (self.old.guest.memory.held + count) }
+        ensures frames { GivesOutSome machine.old machine.new self.old.frames self.new.frames }
+        ensures total { set.len machine.new.out ≡ set.len machine.old.out + count }
+        ensures capacity { self.new.capacity ≡ self.old.capacity }
+        ensures prepared { self.new.prepared ≡ self.old.prepared }
+    {
+        self.parts.memory.add_spares(count, machine);
     }
 
     /// Sets the most frames that the guest may get (`virsh setmem`). A raised cap is a demand for the difference; the target falls to a

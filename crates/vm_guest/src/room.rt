@@ -8,7 +8,7 @@ ghost use Rattle.vm_guest.specs.Start.{started};
 use crate::config::GuestSpec;
 use crate::memory::{HeldMemory, MemoryRoom};
 use crate::parts::GuestParts;
-use crate::start::{Room, first_parts};
+use crate::start::{RoomBesideMemory, first_parts};
 use std::alloc::{AllocError, Global};
 use std::marker::Model;
 use vm_frames::Machine;
@@ -18,7 +18,7 @@ use vm_frames::Machine;
 /// A contract sees it as a `RoomView`: for how many pages and slots of swap it is, and the sampler and the generator that the
 /// guest begins with. A guest can start in it that has the configuration of the specification that it was made for.
 pub struct GuestRoom {
-    room: Room,
+    room: RoomBesideMemory,
     memory: MemoryRoom,
 }
 
@@ -48,7 +48,7 @@ impl GuestRoom {
         ensures { IfOk result (λ room. room ≡ room_for spec.now) }
     {
         let memory = MemoryRoom::new(alloc, spec.size, spec.size - spec.min)?;
-        match Room::new(alloc, spec) {
+        match RoomBesideMemory::new(alloc, spec) {
             Ok(room) => Ok(GuestRoom { room, memory }),
             Err(error) => {
                 memory.close();

@@ -8,7 +8,7 @@ use Rattle.vm_host.specs.Boundary.{FailsAfterSome, opened}
 use Rattle.vm_host.specs.Commands.{IsAfterSome}
 use Rattle.vm_host.specs.Sound.{IsSoundWorld}
 use Rattle.vm_host.specs.World.{Conserves, FailsFrom, KeepsDomains, World, with_phase}
-use Rattle.vm_pool.specs.Pool.{Conserves as AddsUp}
+use Rattle.vm_pool.specs.Pool.{Conserves as PoolConserves}
 use Rattle.vm_reclaim.specs.Policy.{policy_of}
 
 pub fails-from : (w mid new : World) → KeepsDomains w mid → new ≡ with_phase mid Failed → FailsFrom w new
@@ -24,7 +24,7 @@ pub fails-some : (w mid new : World) (lines : List (List ℕ)) → IsAfterSome (
 fails-some w mid new lines some failed = record { count = some.count; is = failed ∙ ap (λ v. with_phase v Failed) some.is }
 
 -- its frames still add up to the machine
-pub fails-whole : (w mid new : World) → IsSoundWorld w → KeepsDomains w mid → new ≡ with_phase mid Failed → AddsUp new.pool → Conserves new
+pub fails-whole : (w mid new : World) → IsSoundWorld w → KeepsDomains w mid → new ≡ with_phase mid Failed → PoolConserves new.pool → Conserves new
 fails-whole w mid new sound kept failed all =
     all
     ∙ (ap (λ (v : World). v.pool.frames) failed

@@ -18,7 +18,7 @@ use Rattle.vm_pool.specs.Pool.{PoolView, EachGuest}
 use Rattle.vm_reclaim.specs.declared.room.Raise.{Raise}
 use Rattle.vm_reclaim.specs.Fairness.{TakesFairly}
 use Rattle.vm_reclaim.specs.Policy.{Policy}
-use Rattle.vm_reclaim.specs.Room.{lacking_at, needed_to_start, raise_to, raised, taken_early, with_surplus_back}
+use Rattle.vm_reclaim.specs.Room.{lacking_at, needed_to_start, raise_to, raised, revocations_for_room, with_surplus_back}
 use Rattle.vm_reclaim.specs.Rows.{rows_of}
 use Rattle.vm_reclaim.proofs.RoomLemmas.{list_of_room}
 use Rattle.vm_reclaim.proofs.FairLemmas.{fair-boundary, fair-command, rows-shares}
@@ -26,7 +26,7 @@ use Rattle.vm_reclaim.proofs.FairLemmas.{fair-boundary, fair-command, rows-share
 fair-room : (policy : Policy) (raise : Option Raise) (needed : ℕ) (pool : PoolView) → EachGuest IsGood pool → TakesFairly policy raise needed pool
 fair-room policy raise needed pool good =
     let left = with_surplus_back raise needed pool in
-    fair-command policy.tax (needed - left.free) (raised raise left) (taken_early policy.tax raise needed pool) (list_of_room policy.tax raise needed pool good)
+    fair-command policy.tax (needed - left.free) (raised raise left) (revocations_for_room policy.tax raise needed pool) (list_of_room policy.tax raise needed pool good)
 
 fair-obeyed : (policy : Policy) (pool : PoolView) (position : ℕ) (command : Command) → EachGuest IsGood pool → IsFairCommand policy pool position command
 fair-obeyed policy pool position (Start domain) good = fair-room policy None (needed_to_start pool position) pool good

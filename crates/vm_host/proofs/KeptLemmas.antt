@@ -4,13 +4,13 @@ use Rattle.vm_commands.specs.declared.command.Command.{Command}
 use Rattle.vm_commands.specs.declared.command.Command.TheVariants.{Start, Destroy, SetMemory, SetMinimum, SetShares, ShowStatistics}
 use Rattle.vm_host.specs.declared.boundary.Refusal.{Refusal}
 use Rattle.vm_host.specs.declared.phase.Phase.TheVariants.{Ready}
-use Rattle.vm_host.specs.Boundary.{bounded_by, finished, opened, with_state_found}
+use Rattle.vm_host.specs.Boundary.{past_boundary_by, finished, opened, with_state_found}
 use Rattle.vm_host.specs.Commands.{after_line, after_lines, decided, obeyed_by}
 use Rattle.vm_host.specs.Decisions.{Admitted, decision_on_line}
 use Rattle.vm_host.proofs.SetupLemmas.{setup-settled}
 use Rattle.vm_pool.specs.Pool.{PoolView}
 use Rattle.vm_reclaim.specs.Policy.{Policy}
-use Rattle.vm_reclaim.specs.Reclaim.{waits_in}
+use Rattle.vm_reclaim.specs.Reclaim.{blocks_in}
 use Rattle.vm_reclaim.specs.Room.{lacking_at, needed_to_start, raise_to, room_made}
 use Rattle.vm_reclaim.proofs.RoomLemmas.{kept_room}
 use Rattle.vm_sound.proofs.FramesLemmas.{setup-started}
@@ -35,10 +35,10 @@ names-lines policy w [] = refl
 names-lines policy w (line ∷ lines) =
     names-lines policy (after_line policy w line) lines ∙ names-decided policy w (decision_on_line w line)
 
-pub machine-bounded : (policy : Policy) (w : World) (lines : List (List ℕ)) → (bounded_by policy w lines).machine ≡ w.machine
+pub machine-bounded : (policy : Policy) (w : World) (lines : List (List ℕ)) → (past_boundary_by policy w lines).machine ≡ w.machine
 machine-bounded policy w lines = machine-lines policy (opened w) lines
 
-pub names-bounded : (policy : Policy) (w : World) (lines : List (List ℕ)) → (bounded_by policy w lines).names ≡ w.names
+pub names-bounded : (policy : Policy) (w : World) (lines : List (List ℕ)) → (past_boundary_by policy w lines).names ≡ w.names
 names-bounded policy w lines = names-lines policy (opened w) lines
 
 configs-obeyed : (tax : Tax) (pool : PoolView) (position : ℕ) (command : Command) → (obeyed_by tax pool position command).configs ≡ pool.configs
@@ -63,9 +63,9 @@ configs-lines policy w (line ∷ lines) =
 configs-finished : (policy : Policy) (w : World) → (finished policy w).pool.configs ≡ w.pool.configs
 configs-finished policy w =
     let state = (with_state_found policy w).state in
-    (setup-settled policy state (waits_in state) w.pool).configs
+    (setup-settled policy state (blocks_in state) w.pool).configs
 
-pub configs-bounded : (policy : Policy) (w : World) (lines : List (List ℕ)) → (bounded_by policy w lines).pool.configs ≡ w.pool.configs
+pub configs-bounded : (policy : Policy) (w : World) (lines : List (List ℕ)) → (past_boundary_by policy w lines).pool.configs ≡ w.pool.configs
 configs-bounded policy w lines = configs-finished policy (after_lines policy (opened w) lines) ∙ configs-lines policy (opened w) lines
 
 phase-decided : (policy : Policy) (w : World) (decision : Result Admitted Refusal) → (decided policy w decision).phase ≡ w.phase
@@ -78,5 +78,5 @@ phase-lines policy w (line ∷ lines) =
     phase-lines policy (after_line policy w line) lines ∙ phase-decided policy w (decision_on_line w line)
 
 -- an epoch may follow
-pub ready-bounded : (policy : Policy) (w : World) (lines : List (List ℕ)) → (bounded_by policy w lines).phase ≡ Ready
+pub ready-bounded : (policy : Policy) (w : World) (lines : List (List ℕ)) → (past_boundary_by policy w lines).phase ≡ Ready
 ready-bounded policy w lines = phase-lines policy (opened w) lines

@@ -6,7 +6,7 @@ use Rattle.vm_commands.specs.LineGrammar.{AsksFor, Form, FormDestroy, FormMemory
 use Rattle.vm_commands.specs.Lines.{command_of}
 use Rattle.vm_commands.proofs.LineLaws.{IsLine-from_read}
 use Rattle.vm_host.specs.declared.boundary.Refusal.{Refusal}
-use Rattle.vm_host.specs.Boundary.{bounded_by, opened}
+use Rattle.vm_host.specs.Boundary.{past_boundary_by, opened}
 use Rattle.vm_host.specs.Commands.{after_line, after_lines, decided}
 use Rattle.vm_host.specs.Decisions.{◌>>=◌, Admitted, admission_of, decision_on, readable}
 use Rattle.vm_host.specs.Obeying.{IsInRange}
@@ -50,5 +50,5 @@ sound-lines policy w [] sound = sound
 sound-lines policy w (line ∷ lines) sound = sound-lines policy (after_line policy w line) lines (sound-line policy w line sound)
 
 -- a boundary leaves a sound host
-pub bounded-sound : (policy : Policy) (w : World) (lines : List (List ℕ)) → IsSoundWorld w → IsSoundWorld (bounded_by policy w lines)
+pub bounded-sound : (policy : Policy) (w : World) (lines : List (List ℕ)) → IsSoundWorld w → IsSoundWorld (past_boundary_by policy w lines)
 bounded-sound policy w lines sound = sound-finished policy (after_lines policy (opened w) lines) (sound-lines policy (opened w) lines (sound-opened w sound))

@@ -12,7 +12,7 @@ use Rattle.vm_plan.specs.State.{next_state_of}
 use Rattle.vm_host.specs.declared.boundary.Refusal.{Refusal}
 use Rattle.vm_reclaim.specs.declared.room.Raise.{Raise}
 use Rattle.vm_host.specs.Answers.{AnswerValue}
-use Rattle.vm_host.specs.Boundary.{bounded_by, boundary_by, finished, grants, opened, page_counts, revocations, told_after, with_grants, with_orders, with_paging, with_revocations, with_state_found}
+use Rattle.vm_host.specs.Boundary.{past_boundary_by, boundary_by, finished, grants, opened, page_counts, revocations, boundary_after_lines, with_grants, with_orders, with_paging, with_revocations, with_state_found}
 use Rattle.vm_reclaim.specs.Reclaim.{blocked_from, paged_from}
 use Rattle.vm_host.specs.Commands.{after_line, after_lines, answer_to, answers_to, decided, obeyed_by, outcome_of, revocations_by}
 use Rattle.vm_reclaim.specs.Room.{lacking_at, needed_to_start, raise_to}
@@ -21,7 +21,7 @@ use Rattle.vm_guest.specs.Boundary.{revoked}
 use Rattle.vm_pool.specs.Changes.{changed, granted_at, started_at, taken_at, with_released, with_min_at}
 use Rattle.vm_pool.specs.Pool.{PoolView}
 use Rattle.vm_reclaim.specs.Policy.{Policy}
-use Rattle.vm_reclaim.specs.Room.{room_made, taken_early, with_surplus_back}
+use Rattle.vm_reclaim.specs.Room.{room_made, revocations_for_room, with_surplus_back}
 use Rattle.vm_reclaim.specs.Rows.{plan_pool_of, row_at, rows_of}
 use Rattle.vm_host.specs.World.{World, with_pool}
 
@@ -33,11 +33,11 @@ pub record DecideAlike (p q : Policy) : Type 0 where
   pub grants : (state : State) (t : Thresholds) (pool : Pool) → grant_list state t p.tax pool ≡ grant_list state t q.tax pool
 
 module _ (p q : Policy) (alike : DecideAlike p q) where
-  taken_early-alike : (raise : Option Raise) (needed : ℕ) (pool : PoolView) → taken_early p.tax raise needed pool ≡ taken_early q.tax raise needed pool
-  taken_early-alike raise needed pool = alike.revocations _ _
+  revocations_for_room-alike : (raise : Option Raise) (needed : ℕ) (pool : PoolView) → revocations_for_room p.tax raise needed pool ≡ revocations_for_room q.tax raise needed pool
+  revocations_for_room-alike raise needed pool = alike.revocations _ _
 
   room_made-alike : (raise : Option Raise) (needed : ℕ) (pool : PoolView) → room_made p.tax raise needed pool ≡ room_made q.tax raise needed pool
-  room_made-alike raise needed pool = ap (λ moves. fold taken_at (with_surplus_back raise needed pool) moves) (taken_early-alike raise needed pool)
+  room_made-alike raise needed pool = ap (λ moves. fold taken_at (with_surplus_back raise needed pool) moves) (revocations_for_room-alike raise needed pool)
 
   obeyed_by-alike : (pool : PoolView) (position : ℕ) (command : Command) → obeyed_by p.tax pool position command ≡ obeyed_by q.tax pool position command
   obeyed_by-alike pool position (Start domain) = ap (λ room. started_at room position) (room_made-alike None (needed_to_start pool position) pool)
@@ -50,9 +50,9 @@ module _ (p q : Policy) (alike : DecideAlike p q) where
 
   revocations_by-alike : (pool : PoolView) (position : ℕ) (command : Command)
       → revocations_by p.tax pool position command ≡ revocations_by q.tax pool position command
-  revocations_by-alike pool position (Start domain) = taken_early-alike None (needed_to_start pool position) pool
+  revocations_by-alike pool position (Start domain) = revocations_for_room-alike None (needed_to_start pool position) pool
   revocations_by-alike pool position (SetMinimum domain least) =
-      taken_early-alike (raise_to position least) (lacking_at pool position least) pool
+      revocations_for_room-alike (raise_to position least) (lacking_at pool position least) pool
   revocations_by-alike pool position (Destroy domain) = refl
   revocations_by-alike pool position (SetMemory domain cap) = refl
   revocations_by-alike pool position (SetShares domain shares) = refl
@@ -122,7 +122,7 @@ module _ (p q : Policy) (alike : DecideAlike p q) where
       ap (λ v. with_orders (with_grants p v)) (paged-alike w)
       ∙ ap with_orders (with_grants-alike (with_paging q (with_revocations q (with_state_found q w))))
 
-  told-alike : (w : World) (answers : List AnswerValue) → told_after p w answers ≡ told_after q w answers
+  told-alike : (w : World) (answers : List AnswerValue) → boundary_after_lines p w answers ≡ boundary_after_lines q w answers
   told-alike w answers =
       let found = with_state_found q w in
       let left = with_revocations q found in
@@ -138,11 +138,11 @@ module _ (p q : Policy) (alike : DecideAlike p q) where
 
   -- ---- the whole
 
-  pub bounded-alike : (w : World) (lines : List (List ℕ)) → bounded_by p w lines ≡ bounded_by q w lines
+  pub bounded-alike : (w : World) (lines : List (List ℕ)) → past_boundary_by p w lines ≡ past_boundary_by q w lines
   bounded-alike w lines =
       ap (finished p) (after_lines-alike (opened w) lines) ∙ finished-alike (after_lines q (opened w) lines)
 
   pub boundary-alike : (w : World) (lines : List (List ℕ)) → boundary_by p w lines ≡ boundary_by q w lines
   boundary-alike w lines =
-      (λ i. told_after p (after_lines-alike (opened w) lines i) (answers-alike (opened w) lines i))
+      (λ i. boundary_after_lines p (after_lines-alike (opened w) lines i) (answers-alike (opened w) lines i))
       ∙ told-alike (after_lines q (opened w) lines) (answers_to q (opened w) lines)

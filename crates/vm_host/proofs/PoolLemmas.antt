@@ -12,8 +12,8 @@ use Rattle.vm_pool.specs.Pool.{PoolView, Conserves, EachGuest}
 use Rattle.vm_reclaim.specs.declared.room.Raise.{Raise}
 use Rattle.vm_reclaim.specs.Making.{IsNeededFor}
 use Rattle.vm_reclaim.specs.Policy.{Policy}
-use Rattle.vm_reclaim.specs.Reclaim.{counts_of, grants_in, pool_granted, pool_paged, pool_revoked, revocations_in, waits_in}
-use Rattle.vm_reclaim.specs.Room.{raised, room_made, surplus_counts, taken_early, with_surplus_back}
+use Rattle.vm_reclaim.specs.Reclaim.{counts_of, grants_in, pool_granted, pool_paged, pool_revoked, revocations_in, blocks_in}
+use Rattle.vm_reclaim.specs.Room.{raised, room_made, surplus_counts, revocations_for_room, with_surplus_back}
 use Rattle.vm_reclaim.specs.Rows.{plan_pool_of, rows_of}
 use Rattle.vm_reclaim.proofs.CanLemmas.{can_revoke}
 use Rattle.vm_reclaim.proofs.CarryLemmas.{counts-releasable, length-paging}
@@ -103,7 +103,7 @@ pub keeps-room : (machine : MachineConfig) (tax : Tax) (raise : Option Raise) (n
     → Keeps machine pool (room_made tax raise needed pool)
 keeps-room machine tax raise needed pool is whole =
     let left = with_surplus_back raise needed pool in
-    let moves = taken_early tax raise needed pool in
+    let moves = revocations_for_room tax raise needed pool in
     let list = list_of_room tax raise needed pool whole.sound.good in
     let can = can_make tax raise needed (needed - left.free) pool moves whole.sound.good is (omega arith) list in
     let first = keeps-surplus machine raise needed pool whole in
@@ -161,7 +161,7 @@ keeps-orders machine wait pool whole = record {
 -- the frames once targets fell, guests gave up frames, targets rose, and the guests have their orders
 abbrev pub pool_finished : Policy → State → PoolView → PoolView
 pool_finished policy state pool =
-    with_orders (waits_in state) (pool_granted policy state (pool_paged policy state (pool_revoked policy state pool)))
+    with_orders (blocks_in state) (pool_granted policy state (pool_paged policy state (pool_revoked policy state pool)))
 
 pub keeps-finished : (machine : MachineConfig) (policy : Policy) (state : State) (pool : PoolView) → IsWhole pool → Keeps machine pool (pool_finished policy state pool)
 keeps-finished machine policy state pool whole =
@@ -171,7 +171,7 @@ keeps-finished machine policy state pool whole =
     let first = keeps-revoked machine policy state pool whole in
     let second = keeps-paged machine policy state revoked first.whole in
     let third = keeps-granted machine policy state paged second.whole in
-    let fourth = keeps-orders machine (waits_in state) granted third.whole in
+    let fourth = keeps-orders machine (blocks_in state) granted third.whole in
     keeps-then machine pool revoked (pool_finished policy state pool) first
     (keeps-then machine revoked paged (pool_finished policy state pool) second
     (keeps-then machine paged granted (pool_finished policy state pool) third fourth))

@@ -13,7 +13,7 @@ use Rattle.vm_pool.specs.Guests.{Guests, each_released, guest_in, number_of, sum
 use Rattle.vm_pool.specs.Pool.{PoolView, EachGuest}
 use Rattle.vm_reclaim.specs.declared.room.Raise.{Raise}
 use Rattle.vm_reclaim.specs.Policy.{Policy, policy_of}
-use Rattle.vm_reclaim.specs.Room.{raised, room_made, surplus_counts, surplus_shares, taken_early, with_surplus_back}
+use Rattle.vm_reclaim.specs.Room.{raised, room_made, surplus_counts, surplus_shares, revocations_for_room, with_surplus_back}
 use Rattle.vm_reclaim.specs.Rows.{rows_of}
 use Rattle.vm_reclaim.proofs.EnoughLemmas.{raised_room}
 use Rattle.vm_sound.proofs.PlaceLemmas.{each-in}
@@ -64,7 +64,7 @@ pub no-room : (tax : Tax) (raise : Option Raise) (pool : PoolView) → room_made
 no-room tax raise pool =
     let left = with_surplus_back raise 0 pool in
     let short : 0 - left.free ≡ 0 = omega arith in
-    let moves : taken_early tax raise 0 pool ≡ [] =
+    let moves : revocations_for_room tax raise 0 pool ≡ [] =
     ap (λ n. revocation_list tax n (rows_of (raised raise left).guests)) short ∙ none-taken tax (rows_of (raised raise left).guests) in
     ap (λ moves. fold taken_at left moves) moves ∙ nothing-back raise pool
 

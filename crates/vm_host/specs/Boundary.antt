@@ -11,7 +11,7 @@ use Rattle.vm_host.specs.Answers.{AnswerValue}
 use Rattle.vm_host.specs.Commands.{after_lines, answers_to}
 use Rattle.vm_pool.specs.Changes.{all_changed, with_orders as all_ordered, with_spares_back}
 use Rattle.vm_reclaim.specs.Policy.{Policy, policy_of}
-use Rattle.vm_reclaim.specs.Reclaim.{blocked_from, counts_of, grants_in, paged_from, pool_granted, pool_paged, pool_revoked, revocations_in, waits_in}
+use Rattle.vm_reclaim.specs.Reclaim.{blocked_from, counts_of, grants_in, paged_from, pool_granted, pool_paged, pool_revoked, revocations_in, blocks_in}
 use Rattle.vm_host.specs.World.{World, with_phase, with_pool}
 
 -- ---- before the lines
@@ -47,7 +47,7 @@ with_grants policy w = with_pool w (pool_granted policy w.state w.pool)
 
 -- each guest gets its orders for the epoch
 abbrev pub with_orders : World → World
-with_orders w = with_pool w (all_ordered (waits_in w.state) w.pool)
+with_orders w = with_pool w (all_ordered (blocks_in w.state) w.pool)
 
 -- ---- after the lines
 
@@ -63,12 +63,12 @@ abbrev pub settled : Policy → World → List (List ℕ) → World
 settled policy w lines = with_state_found policy (after_lines policy (opened w) lines)
 
 -- the host after a boundary with these lines, by a policy
-abbrev pub bounded_by : Policy → World → List (List ℕ) → World
-bounded_by policy w lines = finished policy (after_lines policy (opened w) lines)
+abbrev pub past_boundary_by : Policy → World → List (List ℕ) → World
+past_boundary_by policy w lines = finished policy (after_lines policy (opened w) lines)
 
 -- by that of its machine
-abbrev pub bounded : World → List (List ℕ) → World
-bounded w lines = bounded_by (policy_of w.machine) w lines
+abbrev pub past_boundary : World → List (List ℕ) → World
+past_boundary w lines = past_boundary_by (policy_of w.machine) w lines
 
 -- ---- where memory is refused
 
@@ -81,8 +81,8 @@ pub record FailsAfterSome (old : World) (lines : List (List ℕ)) (new : World) 
 -- ---- what is told
 
 -- what is told of a host that its lines left, with these answers: the free frames are those that the state was found from
-abbrev pub told_after : Policy → World → List AnswerValue → Boundary
-told_after policy w answers =
+abbrev pub boundary_after_lines : Policy → World → List AnswerValue → Boundary
+boundary_after_lines policy w answers =
     let settled_world = with_state_found policy w in
     let revoked_world = with_revocations policy settled_world in
     let paged_world = with_paging policy revoked_world in
@@ -98,7 +98,7 @@ told_after policy w answers =
 
 -- what the boundary tells
 abbrev pub boundary_by : Policy → World → List (List ℕ) → Boundary
-boundary_by policy w lines = told_after policy (after_lines policy (opened w) lines) (answers_to policy (opened w) lines)
+boundary_by policy w lines = boundary_after_lines policy (after_lines policy (opened w) lines) (answers_to policy (opened w) lines)
 
 abbrev pub boundary_of : World → List (List ℕ) → Boundary
 boundary_of w lines = boundary_by (policy_of w.machine) w lines

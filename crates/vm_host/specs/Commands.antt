@@ -15,16 +15,16 @@ use Rattle.vm_pool.specs.Guests.{guest_in}
 use Rattle.vm_pool.specs.Pool.{PoolView}
 use Rattle.vm_tax.specs.Ratio.{Tax}
 use Rattle.vm_reclaim.specs.Policy.{Policy}
-use Rattle.vm_reclaim.specs.Room.{lacking_at, needed_to_start, raise_to, room_made, taken_early}
+use Rattle.vm_reclaim.specs.Room.{lacking_at, needed_to_start, raise_to, room_made, revocations_for_room}
 use Rattle.vm_host.specs.World.{World, with_pool}
 
 -- ---- room
 
 -- the guests that a command takes a page from, in order, one for each page
 abbrev pub revocations_by : Tax → PoolView → ℕ → Command → List ℕ
-revocations_by tax pool position (Start domain) = taken_early tax None (needed_to_start pool position) pool
+revocations_by tax pool position (Start domain) = revocations_for_room tax None (needed_to_start pool position) pool
 revocations_by tax pool position (SetMinimum domain least) =
-    taken_early tax (raise_to position least) (lacking_at pool position least) pool
+    revocations_for_room tax (raise_to position least) (lacking_at pool position least) pool
 revocations_by tax pool position (Destroy domain) = []
 revocations_by tax pool position (SetMemory domain cap) = []
 revocations_by tax pool position (SetShares domain shares) = []

@@ -1,5 +1,5 @@
 -- What a host is, as plain data: no frame is in it, and no number of one.
-use Rattle.std.specs.Prelude.{◌≡◌, ℕ, ◌+◌, List, Option, slice_get}
+use Rattle.std.specs.Prelude.{◌≡◌, ℕ, List, Option, slice_get}
 use Rattle.vm_guest.specs.Config.{GuestConfig}
 use Rattle.vm_guest.specs.Record.{GuestRecord}
 use Rattle.vm_plan.specs.declared.state.State.{State}
@@ -8,7 +8,7 @@ use Rattle.vm_host.specs.declared.phase.Phase.{Phase}
 use Rattle.vm_host.specs.declared.phase.Phase.TheVariants.{Waiting, Failed}
 use Rattle.vm_domains.specs.Domains.{Domain, names_of, configs_of}
 use Rattle.vm_pool.specs.Guests.{guest_in}
-use Rattle.vm_pool.specs.Pool.{PoolView, first_pool, overhead_frames, total_held}
+use Rattle.vm_pool.specs.Pool.{AddUpTo, PoolView, first_pool}
 use Rattle.vm_domains.specs.Machine.{MachineConfig}
 use Rattle.vm_sound.specs.Sound.{HasSameSetup}
 
@@ -48,7 +48,7 @@ config_at w position = slice_get w.pool.configs position
 
 -- frames free, held by guests and set aside for them add up to the machine
 abbrev pub Conserves : World → Type 0
-Conserves w = w.pool.free + total_held w.pool.guests + overhead_frames w.pool ≡ w.machine.frames
+Conserves w = AddUpTo w.machine.frames w.pool
 
 -- its machine and its domains are the same
 pub record KeepsDomains (old new : World) : Type 0 where

@@ -1,5 +1,5 @@
 // Whether a command is obeyed.
-ghost use Rattle.std.specs.Prelude.{◌≡◌, ℕ, ◌+◌, ◌-◌, ◌^◌, ◌<◌, ◌≤◌, IfOk, IfSome, OnOk, OnErr, slice_get};
+ghost use Rattle.std.specs.Prelude.{◌≡◌, ◌+◌, ◌^◌, ◌<◌, IfOk, IfSome, OnOk, OnErr, slice_get};
 ghost use Rattle.vm_admission.specs.Accounts.{with_guest, with_minimum, without_guest, IsMinimumBooked};
 ghost use Rattle.vm_commands.specs.declared.command.Command.TheVariants.{Destroy, SetMemory, SetMinimum, ShowStatistics, Start};
 ghost use Rattle.vm_guest.specs.Good.{IsGood};
@@ -14,7 +14,7 @@ use crate::boundary::Refusal;
 use crate::parts::Parts;
 use vm_admission::{AdmissionError, Books};
 use vm_commands::{Command, Domain};
-use vm_guest::GuestView;
+use vm_guest::{GuestView, more_reserve};
 use vm_pool::Pool;
 
 // The refusal that follows from what the books lack.
@@ -160,14 +160,6 @@ fn admit_minimum(
     let reserve = reserve_at(&parts.pool, position);
     let more = more_reserve(view.size, reserve, least as u32);
     admit_change(books, view.min, least as u32, more, position)
-}
-
-// How much more swap a guest of this size and reserve needs for a minimum.
-fn more_reserve(size: u32, reserve: u32, least: u32) -> u32
-    requires { least ≤ size }
-    ensures { (least_min : ℕ) → least_min ≤ size → reserve ≡ size - least_min → result ≡ least_min - least }
-{
-    (size - least).saturating_sub(reserve)
 }
 
 // The domain runs.

@@ -5,13 +5,13 @@ ghost use Rattle.vm_domains.specs.Domains.{domains_of, place_of};
 ghost use Rattle.vm_guest.specs.Good.{IsGood};
 ghost use Rattle.vm_guest.specs.Record.{steps_left};
 ghost use Rattle.vm_guest.specs.View.{view_of};
-ghost use Rattle.vm_pool.specs.Pool.{running_count, EachGuest, Conserves as AddsUp};
+ghost use Rattle.vm_pool.specs.Pool.{running_count, EachGuest, Conserves as PoolConserves};
 ghost use Rattle.vm_pool.specs.Readers.{stalled_of, Peeks};
 ghost use Rattle.vm_reclaim.specs.Policy.{policy_of};
 ghost use Rattle.vm_plan.specs.declared.state.State.TheVariants.{High};
 ghost use Rattle.vm_host.specs.declared.host.HostError.TheVariants.{Memory as NoMemory, Failed as HasFailed};
 ghost use Rattle.vm_host.specs.declared.phase.Phase.TheVariants.{Waiting, Ready, Failed};
-ghost use Rattle.vm_host.specs.Boundary.{bounded, boundary_of, FailsAfterSome};
+ghost use Rattle.vm_host.specs.Boundary.{past_boundary, boundary_of, FailsAfterSome};
 ghost use Rattle.vm_host.specs.Epoch.{after_epoch};
 ghost use Rattle.vm_host.specs.Fairness.{IsFairBoundary};
 ghost use Rattle.vm_host.specs.Parts.{world_of};
@@ -103,7 +103,7 @@ impl Host {
     /// line. It leaves a failed host: that after some of the lines, from the first one on, each of them obeyed as a whole, and with
     /// nothing done that comes after the lines. Its machine and its domains are as before, and its frames add up.
     pub fn boundary(&mut self, alloc: Global, lines: &Lines) -> Result<Boundary, HostError>
-        ensures done { OnOk result (self.new ≡ bounded self.old lines.now) }
+        ensures done { OnOk result (self.new ≡ past_boundary self.old lines.now) }
         ensures told { IfOk result (λ told. told ≡ boundary_of self.old lines.now) }
         ensures ready { OnOk result (self.new.phase ≡ Ready) }
         ensures failed { (result ≡ Err HasFailed) ↔ (self.old.phase ≡ Failed) }
@@ -337,7 +337,7 @@ fn peek_at(parts: &Parts, name: &str, page: u32, bytes: &mut [u8; PAGE_BYTES]) -
 // Memory was refused in a boundary. However many lines were obeyed, no frame is lost.
 fn fail(parts: &mut Parts)
     ensures failed { world_of parts.new ≡ with_phase (world_of parts.old) Failed }
-    ensures adds_up { AddsUp parts.new.pool }
+    ensures adds_up { PoolConserves parts.new.pool }
 {
     prove!(parts.pool.free() <= parts.pool.frames());
     parts.phase = Phase::Failed;

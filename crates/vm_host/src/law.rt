@@ -1,6 +1,6 @@
 // What is true of every boundary, by its definition alone.
 ghost use Rattle.std.specs.Prelude.{ℕ, List};
-ghost use Rattle.vm_host.specs.Boundary.{bounded};
+ghost use Rattle.vm_host.specs.Boundary.{past_boundary};
 ghost use Rattle.vm_host.specs.Fairness.{IsFairBoundary};
 ghost use Rattle.vm_host.specs.Sound.{IsSoundWorld};
 ghost use Rattle.vm_host.specs.World.{World};
@@ -8,6 +8,6 @@ ghost use Rattle.vm_reclaim.specs.Policy.{policy_of};
 
 /// A boundary leaves a sound host sound, whatever its lines, and each of its revocations is fair.
 pub fn law_boundary()
-    ensures sound { (w : World) (lines : List (List ℕ)) → IsSoundWorld w → IsSoundWorld (bounded w lines) }
+    ensures sound { (w : World) (lines : List (List ℕ)) → IsSoundWorld w → IsSoundWorld (past_boundary w lines) }
     ensures fair { (w : World) (lines : List (List ℕ)) → IsSoundWorld w → IsFairBoundary (policy_of w.machine) w lines }
 {}

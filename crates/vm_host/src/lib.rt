@@ -21,7 +21,7 @@
 //! frames still add up. Where memory is refused in an epoch, nothing changes.
 //!
 //! A clause sees a host as a `World` (`specs/World.antt`): its machine, the names of its domains, the pool of its frames and
-//! guests, state and phase. No frame is in it, so that the definitions of `bounded` (`specs/Boundary.antt`) and `after_epoch`
+//! guests, state and phase. No frame is in it, so that the definitions of `past_boundary` (`specs/Boundary.antt`) and `after_epoch`
 //! are about plain data. After each call frames that are free, held and in overhead add up (`Conserves`), each running guest's
 //! record is good, and the revocations of a boundary were fair (`specs/Fairness.antt`).
 #![tactic(auto)]

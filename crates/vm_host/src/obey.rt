@@ -4,7 +4,7 @@ ghost use Rattle.vm_pool.specs.Changes.{started_at, with_min_at};
 ghost use Rattle.vm_pool.specs.Pool.{guest_at};
 ghost use Rattle.vm_reclaim.specs.Making.{CanRaise, HasRoomToRaise, HasRoomToStart};
 ghost use Rattle.vm_reclaim.specs.Policy.{policy_of};
-ghost use Rattle.vm_reclaim.specs.Room.{lacking_at, needed_to_start, raise_to, room_made, taken_early};
+ghost use Rattle.vm_reclaim.specs.Room.{lacking_at, needed_to_start, raise_to, room_made, revocations_for_room};
 ghost use Rattle.vm_sound.specs.Sound.{HasSameSetup, IsSoundPool};
 ghost use Rattle.vm_tax.specs.Ratio.{hundredths};
 ghost use Rattle.vm_host.specs.Books.{books_of};
@@ -47,7 +47,7 @@ fn start(alloc: Global, tax: u32, pool: &mut Pool, position: usize) -> Result<Pl
     requires stopped { guest_at pool.old position ≡ None }
     requires enough { HasRoomToStart (hundredths tax) pool.old position }
     ensures done { OnOk result (pool.new ≡ started_at (room_made (hundredths tax) None (needed_to_start pool.old position) pool.old) position) }
-    ensures plan { IfOk result (λ plan. plan ≡ taken_early (hundredths tax) None (needed_to_start pool.old position) pool.old) }
+    ensures plan { IfOk result (λ plan. plan ≡ revocations_for_room (hundredths tax) None (needed_to_start pool.old position) pool.old) }
     ensures unchanged { OnErr result (pool.new ≡ pool.old) }
     ensures setup { HasSameSetup pool.old pool.new }
 {
@@ -82,7 +82,7 @@ fn set_minimum(
     requires raise { CanRaise (raise_to position least) pool.old }
     requires enough { HasRoomToRaise (hundredths tax) pool.old position least }
     ensures done { OnOk result (pool.new ≡ with_min_at least (room_made (hundredths tax) (raise_to position least) (lacking_at pool.old position least) pool.old) position) }
-    ensures plan { IfOk result (λ plan. plan ≡ taken_early (hundredths tax) (raise_to position least) (lacking_at pool.old position least) pool.old) }
+    ensures plan { IfOk result (λ plan. plan ≡ revocations_for_room (hundredths tax) (raise_to position least) (lacking_at pool.old position least) pool.old) }
     ensures unchanged { OnErr result (pool.new ≡ pool.old) }
     ensures setup { HasSameSetup pool.old pool.new }
 {

@@ -1,6 +1,6 @@
 // What a boundary does before its lines and after them.
 ghost use Rattle.std.specs.Prelude.{◌≡◌, ◌<◌, ◌⊎◌, IfOk, OnErr, OnOk, length, map, string_bytes};
-ghost use Rattle.vm_host.specs.Boundary.{boundary_of, bounded, finished, opened, told_after};
+ghost use Rattle.vm_host.specs.Boundary.{boundary_of, past_boundary, finished, opened, boundary_after_lines};
 ghost use Rattle.vm_host.specs.Books.{books_of};
 ghost use Rattle.vm_host.specs.Commands.{IsAfterSome};
 ghost use Rattle.vm_host.specs.Parts.{world_of};
@@ -15,7 +15,7 @@ use crate::phase::Phase;
 use std::alloc::{AllocError, Global};
 use vm_admission::Books;
 use vm_plan::next_state;
-use vm_reclaim::{carry_out, numbers_of, plan_boundary, waits_in};
+use vm_reclaim::{blocks_in, carry_out, numbers_of, plan_boundary};
 
 // What comes before the lines: each device is served, so that an epoch may follow, and the spares above the targets come back.
 fn open(parts: &mut Parts)
@@ -30,7 +30,7 @@ fn open(parts: &mut Parts)
 fn settle(alloc: Global, parts: &mut Parts, answers: Vec<Answer>) -> Result<Boundary, AllocError>
     requires { IsSoundWorld (world_of parts.old) }
     ensures done { OnOk result (world_of parts.new ≡ finished (policy_of parts.old.spec) (world_of parts.old)) }
-    ensures told { IfOk result (λ told. told ≡ told_after (policy_of parts.old.spec) (world_of parts.old) answers.items) }
+    ensures told { IfOk result (λ told. told ≡ boundary_after_lines (policy_of parts.old.spec) (world_of parts.old) answers.items) }
     ensures kept { KeepsDomains (world_of parts.old) (world_of parts.new) }
     ensures unchanged { OnErr result (world_of parts.new ≡ world_of parts.old) }
     ensures wanted { OnErr result (0 < length parts.old.pool.guests) }
@@ -41,7 +41,7 @@ fn settle(alloc: Global, parts: &mut Parts, answers: Vec<Answer>) -> Result<Boun
     let plan = plan_boundary(alloc, &numbers, &parts.pool, state)?;
     parts.state = state;
     carry_out(&mut parts.pool, &plan);
-    parts.pool.order_all(waits_in(state));
+    parts.pool.order_all(blocks_in(state));
     Ok(Boundary {
         answers: Answers::new(answers),
         state,
@@ -62,7 +62,7 @@ pub(crate) fn bound(
 ) -> Result<Boundary, AllocError>
     requires sound { IsSoundWorld (world_of parts.old) }
     requires booked { books.old ≡ books_of (world_of parts.old) }
-    ensures done { OnOk result (world_of parts.new ≡ bounded (world_of parts.old) (map string_bytes lines.now)) }
+    ensures done { OnOk result (world_of parts.new ≡ past_boundary (world_of parts.old) (map string_bytes lines.now)) }
     ensures told { IfOk result (λ told. told ≡ boundary_of (world_of parts.old) (map string_bytes lines.now)) }
     ensures booked { OnOk result (books.new ≡ books_of (world_of parts.new)) }
     ensures memory { OnErr result (IsAfterSome (policy_of parts.old.spec) (opened (world_of parts.old)) (map string_bytes lines.now) (world_of parts.new)) }

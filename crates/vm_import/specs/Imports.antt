@@ -1,5 +1,5 @@
 -- What comes of a log: of the source and the sink it names the bytes before and after, where they are known.
-use Rattle.std.specs.Prelude.{◌≡◌, ◌⊎◌, ℕ, ◌≤◌, ◌^◌, List, length, take, drop, Bool, true, false, Option, Ok, Err, IfSome}
+use Rattle.std.specs.Prelude.{◌≡◌, ◌⊎◌, ℕ, ◌≤◌, ◌^◌, List, length, take, drop, Bool, true, Option, Ok, Err, IfSome}
 use Rattle.std.specs.Io.KnownBytes.{Appends, Keeps}
 use Rattle.vm_lackey.specs.declared.access.Access.{Access}
 use Rattle.vm_lackey.specs.Logs.{log_of}
@@ -19,10 +19,6 @@ Takes settings imported P bytes = (accesses : List Access)
     × (taken_of settings (log_of bytes) ≡ Ok (record { accesses = accesses; limit = imported.limit }))
     × (imported.intervals ≡ length (intervals_of settings.interval accesses))
     × P (guest_of settings accesses)
-
--- a reader or a writer that had not failed before has failed since
-abbrev pub NewlyFailed : Bool → Bool → Type 0
-NewlyFailed old new = (old ≡ false) × (new ≡ true)
 
 module _ (settings : Settings) (read_old written_old written_new : Option (List ℕ)) where
   -- the log makes a guest, whose text was written, and nothing else

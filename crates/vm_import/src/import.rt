@@ -2,7 +2,7 @@
 ghost use Rattle.std.specs.Prelude.{◌≡◌, ◌⊎◌, ◌+◌, ◌-◌, ◌≤◌, ◌<◌, ◌^◌, List, [], ◌++◌, Err, IfErr, IfOk, None, OnErr, OnOk, Some, length, true};
 ghost use Rattle.std.specs.Io.KnownBytes.{Appends};
 ghost use Rattle.vm_import.specs.Importing.{FailsToTake, IsStopped, IsTaken, after_interval, written_then};
-ghost use Rattle.vm_import.specs.Imports.{Fails, NewlyFailed, WritesGuest};
+ghost use Rattle.vm_import.specs.Imports.{Fails, WritesGuest};
 ghost use Rattle.vm_import.specs.Progress.{IsReady, IsShort, IsUnderWay};
 ghost use Rattle.vm_import.specs.Settings.{settings_of};
 ghost use Rattle.vm_import.specs.Texts.{head_of};
@@ -11,7 +11,7 @@ ghost use Rattle.vm_import.specs.declared.limits.Limit.{Limit};
 ghost use Rattle.vm_import.specs.declared.outcome.ImportError.TheVariants.{Read, Write};
 ghost use Rattle.vm_lackey.specs.declared.access.Access.{Access};
 ghost use Rattle.vm_lackey.specs.Reading.{left, length_in_all};
-ghost use Rattle.vm_streams.specs.Streams.{AppendsFront};
+ghost use Rattle.vm_streams.specs.Streams.{AppendsFront, NewlyFailed};
 ghost use Rattle.vm_working_set.specs.WorkingSets.{working_set};
 
 use crate::interval::{Interval, IntervalEnd, read_interval, skip};

@@ -3,10 +3,10 @@ ghost use Rattle.std.specs.Prelude.{◌≡◌, ◌≢◌, ◌<◌, ◌≤◌, Li
 ghost use Rattle.std.specs.Io.KnownBytes.{Keeps};
 ghost use Rattle.std.specs.Process.{exit_status};
 ghost use Rattle.clap.specs.Words.{Text};
-ghost use Rattle.vm_import.specs.Imports.{NewlyFailed};
 ghost use Rattle.vm_import.specs.Settings.{settings_of};
 ghost use Rattle.vm_import_program.specs.Written.{IsRefused, IsStopped, IsWritten, settings_by};
 ghost use Rattle.vm_import_words.specs.Taken.{AreTaken};
+ghost use Rattle.vm_streams.specs.Streams.{NewlyFailed};
 
 use crate::complaints::{complain, tell_limit};
 use std::io;

@@ -7,8 +7,8 @@ ghost use Rattle.vm_import_words.specs.CommandLine.{LieInRange, name_of, setting
 ghost use Rattle.vm_import_words.specs.declared.asked.WordsFault.TheVariants.{BadName, Memory};
 ghost use Rattle.vm_words.specs.Words.{number_of};
 
-use crate::names::is_name;
 use std::alloc::{AllocError, Global};
+use vm_config::is_name;
 use vm_import::ImportSettings;
 use vm_words::Request;
 

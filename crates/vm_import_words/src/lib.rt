@@ -7,7 +7,6 @@
 mod asked;
 mod law;
 mod line;
-mod names;
 mod words;
 
 pub use law::law_words;

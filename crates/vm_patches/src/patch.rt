@@ -1,8 +1,6 @@
-ghost use Rattle.std.specs.Prelude.{◌≡◌, ℕ, ◌+◌, ◌<◌, ◌≤◌, ◌++◌, ◌↔◌, [], All, IsTrue, List, length, slice_range, slice_set};
-ghost use Rattle.arrayvec.specs.ArrayVec.{array_vec_len};
+ghost use Rattle.std.specs.Prelude.{◌≡◌, ℕ, ◌+◌, ◌<◌, ◌≤◌, ◌++◌, ◌↔◌, [], All, IsTrue, List, length, slice_range, slice_set, take};
 ghost use Rattle.vm_patches.specs.Patches.{AreWithin, patched, writes_of};
 
-use arrayvec::ArrayVec;
 use std::marker::Model;
 use vm_frames::PAGE_BYTES;
 
@@ -24,19 +22,21 @@ pub struct ByteWrite {
 /// the bytes that it is given and for those of the patch.
 #[derive(Drop)]
 pub struct Patch {
-    writes: ArrayVec<ByteWrite, PATCH_BYTES>,
+    // How many of the places are taken, from the first one on.
+    len: u16,
+    writes: [ByteWrite; PATCH_BYTES],
 }
 
 impl Model for Patch {
-    ghost use Rattle.std.specs.Prelude.{List};
+    ghost use Rattle.std.specs.Prelude.{◌≡◌, ◌≤◌, List, length, take};
     ghost use Rattle.vm_patches.specs.declared.patch.ByteWrite.{ByteWrite};
     ghost use Rattle.vm_patches.specs.Patches.{AreWithin};
 
     ghost Value = { List ByteWrite };
 
-    ghost view = { λ p. p.writes.items };
+    ghost view = { λ p. take p.len p.writes };
 
-    ghost invariant = { λ p. AreWithin p.writes.items };
+    ghost invariant = { λ p. (length p.writes ≡ 12) × (p.len ≤ 12) × AreWithin (take p.len p.writes) };
 }
 
 impl Patch {
@@ -44,8 +44,10 @@ impl Patch {
     pub fn new() -> Patch
         ensures { result ≡ [] }
     {
+        let unused = ByteWrite { offset: 0, byte: 0 };
         Patch {
-            writes: ArrayVec::new(),
+            len: 0,
+            writes: [unused; PATCH_BYTES],
         }
     }
 
@@ -53,7 +55,7 @@ impl Patch {
     pub fn has_room(&self, more: usize) -> bool
         ensures { IsTrue result ↔ (length self.now + more ≤ PATCH_BYTES) }
     {
-        more <= PATCH_BYTES - self.writes.len()
+        more <= PATCH_BYTES - usize::from(self.len)
     }
 
     /// Writes bytes from `offset` on, which have room.
@@ -62,7 +64,8 @@ impl Patch {
         requires within { offset + length bytes.now ≤ PAGE_BYTES }
         ensures { self.new ≡ self.old ++ writes_of offset bytes.now }
     {
-        push_writes(&mut self.writes, offset, bytes);
+        add_writes(&mut self.writes, usize::from(self.len), offset, bytes);
+        self.len += bytes.len() as u16;
     }
 
     // The writes, of which the first comes first.
@@ -70,7 +73,7 @@ impl Patch {
         ensures is { result.now ≡ self.now }
         ensures within { AreWithin result.now }
     {
-        self.writes.as_slice()
+        &self.writes[..usize::from(self.len)]
     }
 
     /// Copies bytes of a page, from `offset` on, as they are after the writes.
@@ -79,27 +82,30 @@ impl Patch {
         ensures { bytes.new ≡ slice_range (patched page.now self.now) offset (offset + length bytes.old) }
     {
         bytes.copy_from_slice(&page[offset..offset + bytes.len()]);
-        lay_over(self.writes.as_slice(), offset, bytes);
+        lay_over(self.writes(), offset, bytes);
     }
 
     /// Brings the writes to a page.
     pub fn apply(&self, page: &mut [u8; PAGE_BYTES])
         ensures { page.new ≡ patched page.old self.now }
     {
-        write_all(self.writes.as_slice(), page);
+        write_all(self.writes(), page);
     }
 }
 
-// Adds a write for each of the bytes.
-fn push_writes(writes: &mut ArrayVec<ByteWrite, PATCH_BYTES>, offset: usize, bytes: &[u8])
-    requires room { array_vec_len writes.old + length bytes.now ≤ PATCH_BYTES }
+// Puts a write for each of the bytes behind the first `len`.
+fn add_writes(writes: &mut [ByteWrite; PATCH_BYTES], len: usize, offset: usize, bytes: &[u8])
+    requires room { len + length bytes.now ≤ PATCH_BYTES }
     requires within { offset + length bytes.now ≤ PAGE_BYTES }
-    ensures { writes.new.items ≡ writes.old.items ++ writes_of offset bytes.now }
+    ensures places { length writes.new ≡ length writes.old }
+    ensures added { take (len + length bytes.now) writes.new ≡ take len writes.old ++ writes_of offset bytes.now }
 {
-    let mut at = offset as u16;
-    for &byte in bytes {
-        writes.push(ByteWrite { offset: at, byte });
-        at += 1;
+    for i in 0..bytes.len() {
+        let at = (offset + i) as u16;
+        writes[len + i] = ByteWrite {
+            offset: at,
+            byte: bytes[i],
+        };
     }
 }
 

@@ -11,7 +11,7 @@ use Rattle.vm_guest.specs.Record.{GuestRecord}
 use Rattle.vm_guest.specs.Start.{started}
 use Rattle.vm_guest.proofs.BoundaryLemmas.{serviced-nothing_posted}
 use Rattle.vm_guest.proofs.EpochLemmas.{granted-nothing_posted, ordered-nothing_posted, released-nothing_posted, revoked-nothing_posted, started-nothing_posted, with_cap-nothing_posted, with_shares-nothing_posted, without_spares-nothing_posted}
-use Rattle.vm_pool.specs.Changes.{all_changed, changed, granted_at, released_at, started_at, stopped_at, waits_above, with_min_at, with_min_held, with_orders, with_released, with_spares_back, with_started}
+use Rattle.vm_pool.specs.Changes.{all_changed, changed, granted_at, released_at, started_at, stopped_at, blocked_above, with_min_at, with_min_held, with_orders, with_released, with_spares_back, with_started}
 use Rattle.vm_pool.specs.Guests.{Guests, each_released, running, EachRunning}
 use Rattle.vm_pool.specs.Pool.{PoolView, guest_at, EachGuest}
 
@@ -105,4 +105,4 @@ served-order blocked p i served = each-changed HasNothingPosted (λ g. ordered g
 
 pub served-order_all : (wait : Bool) (p : PoolView) → EachGuest HasNothingPosted p → EachGuest HasNothingPosted (with_orders wait p)
 served-order_all wait p served =
-    each-all HasNothingPosted (λ g. ordered g (waits_above wait g)) p (λ g nothing. ordered-nothing_posted g (waits_above wait g) nothing) served
+    each-all HasNothingPosted (λ g. ordered g (blocked_above wait g)) p (λ g nothing. ordered-nothing_posted g (blocked_above wait g) nothing) served

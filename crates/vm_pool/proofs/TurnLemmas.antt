@@ -5,7 +5,7 @@ use Rattle.std.proofs.lemmas.List.Elements.{All-head, All-tail, All-cons, All-ni
 use Rattle.std.proofs.lemmas.List.Sums.{sum_by-cons, sum_by-set}
 use Rattle.std.proofs.lemmas.List.{get_or_default, length-reverse, reverse-append, reverse-reverse, set-get_or, take_more}
 use Rattle.vm_board.specs.Pieces.{after, finished}
-use Rattle.vm_guest.specs.Epoch.{pieces}
+use Rattle.vm_guest.specs.Pieces.{pieces}
 use Rattle.vm_guest.specs.State.{GuestState, after_state_pieces, state_epoch, state_piece}
 use Rattle.vm_guest.proofs.PieceLemmas.{epoch-states}
 use Rattle.vm_pool.specs.declared.slot.Slot.{Slot}

@@ -62,9 +62,13 @@ overhead_frames p = p.overhead * running_count p.guests
 abbrev pub most_aside : ℕ → ℕ → ℕ → ℕ
 most_aside overhead guests frames = min (overhead * guests) frames
 
--- frames free, frames held and frames set aside add up to the machine
+-- frames free, held by guests and set aside for them add up to so many
+abbrev pub AddUpTo : ℕ → PoolView → Type 0
+AddUpTo frames p = p.free + total_held p.guests + overhead_frames p ≡ frames
+
+-- they add up to those of the pool
 abbrev pub Conserves : PoolView → Type 0
-Conserves p = p.free + total_held p.guests + overhead_frames p ≡ p.frames
+Conserves p = AddUpTo p.frames p
 
 -- the guest has its target of frames
 abbrev pub HasTarget : GuestRecord → Type 0

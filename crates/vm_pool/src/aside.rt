@@ -6,22 +6,6 @@ ghost use Rattle.vm_pool.specs.Moves.{once_if, MovesAside};
 
 use vm_frames::{Frame, Machine};
 
-// Sets so many of the machine's frames aside, which it has, in the room that is there for them.
-pub(crate) fn set_aside(aside: &mut Vec<Frame>, count: u32, machine: &mut Machine)
-    requires enough { set.len machine.old.out + count ≤ machine.old.total }
-    requires room { vec_len aside.old + count ≤ vec_capacity aside.old }
-    ensures moved { MovesAside aside.old.items aside.new.items machine.old machine.new }
-    ensures count { vec_len aside.new ≡ vec_len aside.old + count }
-    ensures room { vec_capacity aside.new ≡ vec_capacity aside.old }
-{
-    for _ in 0..count {
-        match machine.take() {
-            Some(frame) => aside.push_reserved(frame),
-            None => unreachable!(),
-        }
-    }
-}
-
 // Gives so many frames that were set aside back to the machine.
 pub(crate) fn put_back(aside: &mut Vec<Frame>, count: u32, machine: &mut Machine)
     requires few { count ≤ vec_len aside.old }

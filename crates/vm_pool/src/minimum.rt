@@ -9,7 +9,7 @@ ghost use Rattle.vm_pool.specs.Slots.{IsStanding};
 
 use std::alloc::AllocError;
 use vm_frames::Machine;
-use vm_guest::Guest;
+use vm_guest::{Guest, more_reserve};
 
 // Sets the minimum of a guest, and gives it the frames that it lacks, which the machine has free. Its swap area grows where the minimum
 // is below each that it had. Where memory is refused, nothing changes.
@@ -31,7 +31,7 @@ pub(crate) fn set_min(
     ensures machine { OnErr result (machine.new ≡ machine.old) }
 {
     let view = guest.view();
-    let slots = (view.size - least).saturating_sub(guest.reserve());
+    let slots = more_reserve(view.size, guest.reserve(), least);
     guest.grow_swap(slots)?;
     guest.set_min(least);
     add_spares(guest, least.saturating_sub(view.held), machine);
@@ -47,10 +47,5 @@ pub(crate) fn add_spares(guest: &mut Guest, count: u32, machine: &mut Machine)
     ensures capacity { guest.new.capacity ≡ guest.old.capacity }
     ensures frames { TakesFrames count machine.old machine.new guest.old.frames guest.new.frames }
 {
-    for _ in 0..count {
-        match machine.take() {
-            Some(frame) => guest.add_spare(frame),
-            None => unreachable!(),
-        }
-    }
+    guest.add_spares(count, machine);
 }

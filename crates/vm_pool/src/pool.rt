@@ -6,12 +6,12 @@ ghost use Rattle.vm_guest.specs.Good.{HasNothingPosted, IsGood};
 ghost use Rattle.vm_guest.specs.Record.{reserve, steps_left};
 ghost use Rattle.vm_guest.specs.View.{view_of};
 ghost use Rattle.vm_pool.specs.CanMove.{CanGrant, CanRevoke};
-ghost use Rattle.vm_pool.specs.Changes.{after_epoch, all_changed, changed, freed, frames_to_start, granted_at, lacking, released_at, spares_of, started_at, stopped_at, surplus_of, waits_above, with_min_at, with_orders, with_released, with_spares_back, is_above_in, AreReleasable};
+ghost use Rattle.vm_pool.specs.Changes.{after_epoch, all_changed, changed, freed, frames_to_start, granted_at, lacking, released_at, spares_of, started_at, stopped_at, surplus_of, blocked_above, with_min_at, with_orders, with_released, with_spares_back, is_above_in, AreReleasable};
 ghost use Rattle.vm_pool.specs.Pool.{first_pool, guest_at, most_aside, overhead_frames, running_count, stopped_config, Conserves, EachGuest, HasTarget, IsRoomAt};
 ghost use Rattle.vm_pool.specs.Readers.{peeked, stalled_of, Peeks};
 ghost use Rattle.vm_pool.specs.declared.slot.Slot.TheVariants.{Stopped};
 
-use crate::aside::{put_back, set_aside};
+use crate::aside::put_back;
 use crate::round::{run_epochs, run_epochs_alone};
 use crate::slot::{
     Slot, close_all, grant, guest_of, order, release, revoke, room_to_start, serve, set_cap,
@@ -22,7 +22,7 @@ use std::marker::Model;
 use std::thread::Threads;
 use vm_board::Gate;
 use vm_frames::{Frame, Machine, PAGE_BYTES};
-use vm_guest::{Guest, GuestRoom, GuestSpec, GuestView, PageRead, Stats};
+use vm_guest::{Guest, GuestRoom, GuestSpec, GuestView, PageRead, Stats, take_frames};
 
 /// A machine with its guests, by position. It has to be closed, since the guests hold the machine's frames.
 ///
@@ -216,7 +216,7 @@ impl Pool {
         ensures { self.new ≡ started_at self.old position }
     {
         start(&mut self.slots[position], room, &mut self.machine);
-        set_aside(&mut self.aside, self.overhead, &mut self.machine);
+        take_frames(&mut self.aside, self.overhead, &mut self.machine);
     }
 
     /// Stops the guest that runs at a position (`virsh destroy`). Its frames and its overhead are free then.
@@ -353,7 +353,7 @@ impl Pool {
     // Gives the guest at a position its orders; where `wait`, it may not run while it holds more than its target.
     fn order_waiting(&mut self, position: usize, wait: bool)
         requires { position < length self.old.guests }
-        ensures { self.new ≡ changed (λ g. ordered g (waits_above wait g)) self.old position }
+        ensures { self.new ≡ changed (λ g. ordered g (blocked_above wait g)) self.old position }
     {
         let blocked = wait && self.is_above(position);
         self.order(position, blocked);

@@ -6,7 +6,8 @@ ghost use Rattle.vm_command_line.specs.Statuses.{IsRefused};
 ghost use Rattle.vm_program.specs.CommandLine.{AreTaken};
 ghost use Rattle.vm_program.specs.Statuses.{StopsEarly};
 ghost use Rattle.vm_sim.specs.Report.{report_of};
-ghost use Rattle.vm_sim.specs.Run.{NewlyFailed, RunsConfig};
+ghost use Rattle.vm_sim.specs.Run.{RunsConfig};
+ghost use Rattle.vm_streams.specs.Streams.{NewlyFailed};
 
 use crate::complaints::complain;
 use crate::line::LINE;

@@ -22,7 +22,7 @@ use Rattle.vm_reclaim.specs.declared.room.Raise.{Raise}
 use Rattle.vm_reclaim.specs.Enough.{CoversMinimum, CoversStart, promised_to}
 use Rattle.vm_reclaim.specs.Fairness.{TakesFromCheapest}
 use Rattle.vm_reclaim.specs.Making.{HasRoomToRaise, HasRoomToStart, IsNeededFor}
-use Rattle.vm_reclaim.specs.Room.{lacking_at, needed_to_start, raise_to, raised, room_made, surplus_counts, surplus_shares, taken_early, with_surplus_back}
+use Rattle.vm_reclaim.specs.Room.{lacking_at, needed_to_start, raise_to, raised, room_made, surplus_counts, surplus_shares, revocations_for_room, with_surplus_back}
 use Rattle.vm_reclaim.specs.Rows.{rows_of}
 use Rattle.vm_sound.specs.Sound.{IsSoundPool}
 use Rattle.vm_reclaim.proofs.CanLemmas.{changed_here}
@@ -171,7 +171,7 @@ room_found : (tax : Tax) (raise : Option Raise) (needed : ℕ) (pool : PoolView)
     ≤ (room_made tax raise needed pool).free + total min_of (raised raise pool).guests)
 room_found tax raise needed pool good =
     let left = with_surplus_back raise needed pool in
-    let moves = taken_early tax raise needed pool in
+    let moves = revocations_for_room tax raise needed pool in
     let seen = (raised raise pool).guests in
     let free = free-taken moves left in
     let sum = sum-shares (needed - pool.free) seen in
@@ -238,7 +238,7 @@ raised-taken tax raise pool (position ∷ moves) low takes =
 pub raised_room : (tax : Tax) (raise : Raise) (needed : ℕ) (pool : PoolView) → EachGuest IsGood pool → IsNeededFor (Some raise) needed pool
     → guest_in (room_made tax (Some raise) needed pool).guests raise.position ≡ guest_in pool.guests raise.position
 raised_room tax raise needed pool good is =
-    go (taken_early tax (Some raise) needed pool) (list_of_room tax (Some raise) needed pool good) ∙ raised-left raise needed pool is
+    go (revocations_for_room tax (Some raise) needed pool) (list_of_room tax (Some raise) needed pool good) ∙ raised-left raise needed pool is
   where
     left : PoolView
     left = with_surplus_back (Some raise) needed pool

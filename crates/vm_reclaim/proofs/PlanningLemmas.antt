@@ -15,7 +15,7 @@ use Rattle.vm_plan.specs.declared.row.PlanRow.{PlanRow}
 use Rattle.vm_plan.specs.PlanRow.{row_of as plan_row, rows_of as plan_rows}
 use Rattle.vm_plan.specs.Revocation.{IsRevocable, revoked_row, rows_after}
 use Rattle.vm_plan.specs.Row.{Row, change_at, wanting_ratios}
-use Rattle.vm_pool.specs.Changes.{changed, granted_at, waits_above, with_orders}
+use Rattle.vm_pool.specs.Changes.{changed, granted_at, blocked_above, with_orders}
 use Rattle.vm_pool.specs.Guests.{Guests, each_changed, each_released, guest_changed, number_of, sum_of}
 use Rattle.vm_pool.specs.Pool.{PoolView, total_held}
 use Rattle.vm_tax.specs.Offers.{greatest_position}
@@ -25,7 +25,7 @@ use Rattle.vm_reclaim.specs.declared.told.Paged.{Paged}
 use Rattle.vm_reclaim.specs.Fairness.{TakesFromCheapest}
 use Rattle.vm_reclaim.specs.Planning.{CanLower, frames_in, if_paged, paged_row, row_counts, waiting_from, waits_row}
 use Rattle.vm_reclaim.specs.Policy.{Policy}
-use Rattle.vm_reclaim.specs.Reclaim.{blocked_from, counts_of, if_blocked, paged_from, pool_granted, pool_revoked, revocations_in, waits_in}
+use Rattle.vm_reclaim.specs.Reclaim.{blocked_from, counts_of, if_blocked, paged_from, pool_granted, pool_revoked, revocations_in, blocks_in}
 use Rattle.vm_reclaim.specs.Rows.{idle_row, plan_pool_of, row_at, row_of, rows_of}
 use Rattle.vm_reclaim.proofs.DropLemmas.{append-nil, append-one, told-first}
 use Rattle.vm_reclaim.proofs.HeldLemmas.{released-bare}
@@ -180,7 +180,7 @@ never true = refl
 never false = refl
 
 waiting-are : (wait : Bool) (position : ℕ) (guests : Guests)
-    → waiting_from position wait (rows_of guests) ≡ blocked_from position (each_changed (λ g. ordered g (waits_above wait g)) guests)
+    → waiting_from position wait (rows_of guests) ≡ blocked_from position (each_changed (λ g. ordered g (blocked_above wait g)) guests)
 waiting-are wait position [] = refl
 waiting-are wait position (None ∷ guests) =
     let later = waiting-are wait (position + 1) guests in
@@ -192,7 +192,7 @@ pub none-waits : (position : ℕ) (rows : List Row) → waiting_from position fa
 none-waits position [] = refl
 none-waits position (row ∷ rows) = none-waits (position + 1) rows
 
-none-blocked : (position : ℕ) (guests : Guests) → blocked_from position (each_changed (λ g. ordered g (waits_above false g)) guests) ≡ []
+none-blocked : (position : ℕ) (guests : Guests) → blocked_from position (each_changed (λ g. ordered g (blocked_above false g)) guests) ≡ []
 none-blocked position [] = refl
 none-blocked position (None ∷ guests) = none-blocked (position + 1) guests
 none-blocked position (Some g ∷ guests) = none-blocked (position + 1) guests
@@ -202,7 +202,7 @@ all-run rows pool = none-waits 0 rows ∙ sym (none-blocked 0 pool.guests)
 
 -- the guests that wait are those that hold more than their targets before anything is granted
 pub blocked-are : (policy : Policy) (state : State) (pool : PoolView)
-    → waiting_from 0 (waits_in state) (rows_of pool.guests) ≡ blocked_from 0 (with_orders (waits_in state) (pool_granted policy state pool)).guests
+    → waiting_from 0 (blocks_in state) (rows_of pool.guests) ≡ blocked_from 0 (with_orders (blocks_in state) (pool_granted policy state pool)).guests
 blocked-are policy High pool = all-run (rows_of pool.guests) (pool_granted policy High pool)
 blocked-are policy Soft pool = all-run (rows_of pool.guests) (pool_granted policy Soft pool)
 blocked-are policy Hard pool = all-run (rows_of pool.guests) (pool_granted policy Hard pool)

@@ -18,7 +18,7 @@ use Rattle.vm_tax.specs.Ratio.{Tax}
 use Rattle.vm_reclaim.specs.declared.room.Raise.{Raise}
 use Rattle.vm_reclaim.specs.Making.{CanRaise}
 use Rattle.std.specs.Prelude.{slice_index_or}
-use Rattle.vm_reclaim.specs.Room.{raised, room_made, surplus_counts, taken_early, with_surplus_back}
+use Rattle.vm_reclaim.specs.Room.{raised, room_made, surplus_counts, revocations_for_room, with_surplus_back}
 use Rattle.vm_sound.specs.Sound.{HasSameSetup}
 use Rattle.vm_reclaim.specs.Rows.{rows_of}
 use Rattle.vm_reclaim.proofs.CanLemmas.{changed_here}
@@ -65,7 +65,7 @@ overhead_taken (position ∷ moves) pool = overhead_taken moves (taken_at pool p
 
 pub length_room : (tax : Tax) (raise : Option Raise) (needed : ℕ) (pool : PoolView) → length (room_made tax raise needed pool).guests ≡ length pool.guests
 length_room tax raise needed pool =
-    length_taken (taken_early tax raise needed pool) (with_surplus_back raise needed pool) ∙ length-left raise needed pool
+    length_taken (revocations_for_room tax raise needed pool) (with_surplus_back raise needed pool) ∙ length-left raise needed pool
 
 -- who doesn't run still doesn't
 none_kept : (change : GuestRecord → GuestRecord) (o : Option GuestRecord) → o ≡ None → option_map change o ≡ None
@@ -75,7 +75,7 @@ pub stopped_room : (tax : Tax) (raise : Option Raise) (needed : ℕ) (pool : Poo
 stopped_room tax raise needed pool i none =
     let counts = surplus_counts raise needed pool in
     let there = released_in counts pool.guests i (length-shares (needed - pool.free) (raised raise pool).guests ∙ length-raised raise pool) in
-    all_taken (λ (o : Option GuestRecord). o ≡ None) (taken_early tax raise needed pool) (with_surplus_back raise needed pool) i
+    all_taken (λ (o : Option GuestRecord). o ≡ None) (revocations_for_room tax raise needed pool) (with_surplus_back raise needed pool) i
     (λ o. none_kept (λ g. released 1 (revoked g)) o) (there ∙ none_kept (released (slice_index_or counts i 0)) (guest_in pool.guests i) none)
 
 -- a minimum that could be raised still can
@@ -90,7 +90,7 @@ cap_kept least (Some g) to = subst (λ (a : Allotment). least ≤ a.cap) (sym (r
 pub raise_room : (tax : Tax) (raise : Raise) (needed : ℕ) (pool : PoolView) → CanRaise (Some raise) pool → CanRaise (Some raise) (room_made tax (Some raise) needed pool)
 raise_room tax raise needed pool can =
     let left = with_surplus_back (Some raise) needed pool in
-    let moves = taken_early tax (Some raise) needed pool in
+    let moves = revocations_for_room tax (Some raise) needed pool in
     let was = raise_left (Some raise) needed pool can in
     let long = length_taken moves left in
     let within = was.within in
@@ -106,7 +106,7 @@ raise_room tax raise needed pool can =
 pub kept_room : (tax : Tax) (raise : Option Raise) (needed : ℕ) (pool : PoolView) → HasSameSetup pool (room_made tax raise needed pool)
 kept_room tax raise needed pool =
     let left = with_surplus_back raise needed pool in
-    let moves = taken_early tax raise needed pool in
+    let moves = revocations_for_room tax raise needed pool in
     record { frames = frames_taken moves left; overhead = overhead_taken moves left; configs = configs_taken moves left }
 
 pub kept_same : (old new : PoolView) → new ≡ old → HasSameSetup old new
@@ -123,7 +123,7 @@ seen-shares None pool have = have
 seen-shares (Some raise) pool have = each-changed HasShares (λ g. with_min g raise.least) pool raise.position (λ g has. has) have
 
 pub list_of_room : (tax : Tax) (raise : Option Raise) (needed : ℕ) (pool : PoolView) → EachGuest IsGood pool
-    → IsRevocationList tax (needed - (with_surplus_back raise needed pool).free) (rows_of (raised raise (with_surplus_back raise needed pool)).guests) (taken_early tax raise needed pool)
+    → IsRevocationList tax (needed - (with_surplus_back raise needed pool).free) (rows_of (raised raise (with_surplus_back raise needed pool)).guests) (revocations_for_room tax raise needed pool)
 list_of_room tax raise needed pool good =
     let left = with_surplus_back raise needed pool in
     revocation_list-meets tax (needed - left.free) (rows_of (raised raise left).guests)
@@ -132,7 +132,7 @@ list_of_room tax raise needed pool good =
 -- the list of the guests as they are seen before any of them gives up a frame
 pub list_before : (tax : Tax) (raise : Option Raise) (needed wanted : ℕ) (pool : PoolView) (rows : List Row) (moves : List ℕ)
     → wanted ≡ needed - pool.free - sum_of (surplus_counts raise needed pool) → rows ≡ rows_of (raised raise pool).guests → moves ≡ revocation_list tax wanted rows
-    → moves ≡ taken_early tax raise needed pool
+    → moves ≡ revocations_for_room tax raise needed pool
 list_before tax raise needed wanted pool rows moves short seen exact =
     let left = with_surplus_back raise needed pool in
     let after : wanted ≡ needed - left.free = omega (arith, short) in

@@ -8,7 +8,7 @@ use Rattle.vm_pool.specs.Pool.{PoolView, guest_at}
 use Rattle.vm_reclaim.specs.declared.told.BoundaryPlan.{BoundaryPlan}
 use Rattle.vm_reclaim.specs.declared.told.Paged.{Paged}
 use Rattle.vm_reclaim.specs.Policy.{Policy}
-use Rattle.vm_reclaim.specs.Reclaim.{blocked_from, counts_of, grants_in, paged_from, pool_granted, pool_paged, pool_revoked, revocations_in, waits_in}
+use Rattle.vm_reclaim.specs.Reclaim.{blocked_from, counts_of, grants_in, paged_from, pool_granted, pool_paged, pool_revoked, revocations_in, blocks_in}
 
 -- ---- what is planned: each list is that of the frames as those before it leave them
 
@@ -25,7 +25,7 @@ plan_of policy state pool = record {
   revoked = revocations_in policy state pool;
   paged = paged_from 0 (counts_of state policy.page_rate (pool_revoked policy state pool).guests);
   granted = grants_in policy state (pool_reclaimed policy state pool);
-  blocked = blocked_from 0 (with_orders (waits_in state) (pool_settled policy state pool)).guests;
+  blocked = blocked_from 0 (with_orders (blocks_in state) (pool_settled policy state pool)).guests;
 }
 
 -- ---- how it is carried out

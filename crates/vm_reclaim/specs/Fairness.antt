@@ -9,7 +9,7 @@ use Rattle.vm_pool.specs.Guests.{Guests, guest_in}
 use Rattle.vm_pool.specs.Pool.{PoolView}
 use Rattle.vm_reclaim.specs.declared.room.Raise.{Raise}
 use Rattle.vm_reclaim.specs.Policy.{Policy}
-use Rattle.vm_reclaim.specs.Room.{raised, taken_early, with_surplus_back}
+use Rattle.vm_reclaim.specs.Room.{raised, revocations_for_room, with_surplus_back}
 
 -- the adjusted ratio of a guest's shares to its pages
 abbrev pub price_of : Tax → GuestRecord → Ratio
@@ -41,4 +41,4 @@ TakesFromCheapest tax take pool (position ∷ moves) =
 
 abbrev pub TakesFairly : Policy → Option Raise → ℕ → PoolView → Type 0
 TakesFairly policy raise needed pool =
-    TakesFromCheapest policy.tax taken_at (raised raise (with_surplus_back raise needed pool)) (taken_early policy.tax raise needed pool)
+    TakesFromCheapest policy.tax taken_at (raised raise (with_surplus_back raise needed pool)) (revocations_for_room policy.tax raise needed pool)

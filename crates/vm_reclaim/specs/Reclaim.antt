@@ -65,8 +65,8 @@ blocked_from position (guest ∷ guests) =
     else blocked_from (position + 1) guests
 
 -- in low, a guest waits that holds more than its target
-abbrev pub waits_in : State → Bool
-waits_in Low = true
-waits_in High = false
-waits_in Soft = false
-waits_in Hard = false
+abbrev pub blocks_in : State → Bool
+blocks_in Low = true
+blocks_in High = false
+blocks_in Soft = false
+blocks_in Hard = false

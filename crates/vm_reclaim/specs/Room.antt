@@ -32,14 +32,14 @@ abbrev pub with_surplus_back : Option Raise → ℕ → PoolView → PoolView
 with_surplus_back raise needed pool = with_released (surplus_counts raise needed pool) pool
 
 -- the guests that then lose a frame each, in order, until so many frames are free
-abbrev pub taken_early : Tax → Option Raise → ℕ → PoolView → List ℕ
-taken_early tax raise needed pool =
+abbrev pub revocations_for_room : Tax → Option Raise → ℕ → PoolView → List ℕ
+revocations_for_room tax raise needed pool =
     let left = with_surplus_back raise needed pool in
     revocation_list tax (needed - left.free) (rows_of (raised raise left).guests)
 
 -- the frames once so many are free
 abbrev pub room_made : Tax → Option Raise → ℕ → PoolView → PoolView
-room_made tax raise needed pool = fold taken_at (with_surplus_back raise needed pool) (taken_early tax raise needed pool)
+room_made tax raise needed pool = fold taken_at (with_surplus_back raise needed pool) (revocations_for_room tax raise needed pool)
 
 -- ---- what is needed
 

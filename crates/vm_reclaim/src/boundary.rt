@@ -12,12 +12,12 @@ ghost use Rattle.vm_reclaim.specs.Boundary.{carried_out, plan_of, pool_reclaimed
 ghost use Rattle.vm_reclaim.specs.Fairness.{IsAtMinimum, TakesFromCheapest};
 ghost use Rattle.vm_reclaim.specs.Numbers.{policy_in};
 ghost use Rattle.vm_reclaim.specs.Planning.{frames_in, if_paged, paged_row, row_counts, waiting_from, waits_row, CanLower};
-ghost use Rattle.vm_reclaim.specs.Reclaim.{if_blocked, paged_from, pool_revoked, revocations_in, waits_in, wanted_in};
+ghost use Rattle.vm_reclaim.specs.Reclaim.{if_blocked, paged_from, pool_revoked, revocations_in, blocks_in, wanted_in};
 ghost use Rattle.vm_reclaim.specs.Rows.{plan_pool_of, rows_of};
 ghost use Rattle.vm_tax.specs.Ratio.{hundredths};
 
 use crate::policy::Numbers;
-use crate::reclaim::waits_in;
+use crate::reclaim::blocks_in;
 use crate::rest::{is_at_rest, nothing};
 use crate::rows::rows_of;
 use crate::told::{Blocked, BoundaryPlan, Paged, Paging};
@@ -137,7 +137,7 @@ fn free_after(pool: &Pool, paged: &[Paged]) -> u32
 
 // Whether the guest of a row has to wait.
 fn waits(state: State, row: &PlanRow) -> bool
-    ensures { result ≡ waits_row (waits_in state) (row_of row.now) }
+    ensures { result ≡ waits_row (blocks_in state) (row_of row.now) }
 {
     is_blocked(state, row)
 }
@@ -155,11 +155,11 @@ fn push_blocked(blocked: &mut Vec<u32>, position: u32, is: bool) -> Result<(), A
 // The positions of the guests that have to wait, in order. Where the state lets all run, no row is looked at.
 fn blocked_of(alloc: Global, state: State, rows: &[PlanRow]) -> Result<Blocked, AllocError>
     requires few { length rows.now ≤ 256 }
-    ensures list { IfOk result (λ blocked. blocked ≡ waiting_from 0 (waits_in state) (plan_rows rows.now)) }
+    ensures list { IfOk result (λ blocked. blocked ≡ waiting_from 0 (blocks_in state) (plan_rows rows.now)) }
     ensures memory { IfErr result (λ _. 0 < length rows.now) }
 {
     let mut blocked = Vec::new(alloc);
-    if !waits_in(state) {
+    if !blocks_in(state) {
         return Ok(Blocked::new(blocked));
     }
     for (position, row) in rows.iter().enumerate() {
@@ -194,7 +194,7 @@ pub fn plan_boundary(
     ensures can { IfOk result (CanCarryOut pool.now) }
     ensures done { IfOk result (λ plan. carried_out plan pool.now ≡ pool_settled (policy_in numbers.now) state pool.now) }
 
-    // Each page that is taken is that of a guest above its minimum whose adjusted ratio is least then.
+    // Each page of a target that is taken is that of a guest above its minimum whose adjusted ratio is least then.
     ensures taken_fairly { IfOk result
         (λ plan. TakesFromCheapest (hundredths numbers.now.tax) (changed revoked) pool.now plan.revoked) }
 

@@ -21,6 +21,6 @@ mod told;
 pub use boundary::plan_boundary;
 pub use law::law_room;
 pub use policy::Numbers;
-pub use reclaim::{carry_out, numbers_of, waits_in};
+pub use reclaim::{blocks_in, carry_out, numbers_of};
 pub use room::{Raise, make_room};
 pub use told::{Blocked, BoundaryPlan, Paged, Paging};

@@ -7,7 +7,7 @@ ghost use Rattle.vm_pool.specs.CanMove.{CanGrant, CanRevoke};
 ghost use Rattle.vm_reclaim.specs.Boundary.{carried_out, given_up, CanCarryOut, CanGiveUp};
 ghost use Rattle.vm_reclaim.specs.Numbers.{policy_in};
 ghost use Rattle.vm_reclaim.specs.Policy.{policy_of};
-ghost use Rattle.vm_reclaim.specs.Reclaim.{waits_in};
+ghost use Rattle.vm_reclaim.specs.Reclaim.{blocks_in};
 
 use crate::policy::Numbers;
 use crate::told::{BoundaryPlan, Paged};
@@ -73,8 +73,8 @@ pub fn carry_out(pool: &mut Pool, plan: &BoundaryPlan)
 }
 
 /// Whether a guest that holds more than its target has to wait: in Low alone (Waldspurger, OSDI 2002, section 6.3).
-pub fn waits_in(state: State) -> bool
-    ensures { result ≡ waits_in state }
+pub fn blocks_in(state: State) -> bool
+    ensures { result ≡ blocks_in state }
 {
     match state {
         State::Low => true,

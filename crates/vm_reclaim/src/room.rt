@@ -10,7 +10,7 @@ ghost use Rattle.vm_pool.specs.Guests.{sum_of};
 ghost use Rattle.vm_reclaim.specs.Fairness.{TakesFromCheapest};
 ghost use Rattle.vm_reclaim.specs.Making.{raised_row, shares_of, CanRaise, IsNeededFor};
 ghost use Rattle.vm_sound.specs.Moves.{CanTake};
-ghost use Rattle.vm_reclaim.specs.Room.{raised, room_made, surplus_counts, taken_early, with_surplus_back};
+ghost use Rattle.vm_reclaim.specs.Room.{raised, room_made, surplus_counts, revocations_for_room, with_surplus_back};
 ghost use Rattle.vm_sound.specs.Sound.{HasSameSetup};
 ghost use Rattle.vm_reclaim.specs.Rows.{rows_of};
 ghost use Rattle.vm_tax.specs.Ratio.{hundredths};
@@ -142,7 +142,7 @@ fn plan_room(
     requires tax { tax ≤ 9999 }
     requires raise { CanRaise raise pool.now }
     ensures counts { IfOk result (λ room. room.counts.items ≡ surplus_counts raise needed pool.now) }
-    ensures plan { IfOk result (λ room. room.plan ≡ taken_early (hundredths tax) raise needed pool.now) }
+    ensures plan { IfOk result (λ room. room.plan ≡ revocations_for_room (hundredths tax) raise needed pool.now) }
     ensures good { OnOk result (EachGuest IsGood pool.now) }
     ensures memory { IfErr result (λ _. 0 < length pool.now.guests) }
 {
@@ -173,9 +173,10 @@ pub fn make_room(
     requires raise { CanRaise raise pool.old }
     requires needed { IsNeededFor raise needed pool.old }
     ensures done { OnOk result (pool.new ≡ room_made (hundredths tax) raise needed pool.old) }
-    ensures plan { IfOk result (λ plan. plan ≡ taken_early (hundredths tax) raise needed pool.old) }
+    ensures plan { IfOk result (λ plan. plan ≡ revocations_for_room (hundredths tax) raise needed pool.old) }
 
-    // Each frame that is taken is that of a guest above its minimum whose adjusted ratio is least then.
+    // What guests hold above their targets goes first, by position and whatever their ratio. Each page of a target that is taken
+    // after that is that of a guest above its minimum whose adjusted ratio is least then.
     ensures fair { let seen = raised raise (with_surplus_back raise needed pool.old) in
         IfOk result (TakesFromCheapest (hundredths tax) taken_at seen) }
     ensures unchanged { OnErr result (pool.new ≡ pool.old) }

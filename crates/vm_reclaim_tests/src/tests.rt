@@ -10,7 +10,7 @@ use vm_guest::GuestSpec;
 use vm_plan::{Plan, State, next_state};
 use vm_pool::{Open, Pool};
 use vm_reclaim::{
-    Numbers, Paged, Raise, carry_out, make_room, numbers_of, plan_boundary, waits_in,
+    Numbers, Paged, Raise, blocks_in, carry_out, make_room, numbers_of, plan_boundary,
 };
 use vm_trace::Trace;
 
@@ -176,7 +176,7 @@ fn settle(
     assert!(rt; pool.len() <= 256);
     let plan = plan_boundary(alloc, numbers, pool, state).expect(rt, "memory");
     carry_out(pool, &plan);
-    pool.order_all(waits_in(state));
+    pool.order_all(blocks_in(state));
     Told {
         state,
         free,

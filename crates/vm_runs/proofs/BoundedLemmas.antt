@@ -11,7 +11,7 @@ use Rattle.vm_guest.specs.Start.{started}
 use Rattle.vm_guest.proofs.LastWriteLemmas.{last_write-append}
 use Rattle.vm_guest.proofs.WrittenLemmas.{started-written}
 use Rattle.vm_host.specs.declared.boundary.Refusal.{Refusal}
-use Rattle.vm_host.specs.Boundary.{bounded_by, opened, settled}
+use Rattle.vm_host.specs.Boundary.{past_boundary_by, opened, settled}
 use Rattle.vm_host.specs.Commands.{after_line, after_lines, decided, obeyed_by}
 use Rattle.vm_host.specs.Decisions.{Admitted, decision_on_line}
 use Rattle.vm_host.specs.History.{history_after_lines, history_after_service, history_of_command, history_of_decision}
@@ -23,10 +23,10 @@ use Rattle.vm_pool.specs.Guests.{each_changed}
 use Rattle.vm_pool.specs.Pool.{PoolView, EachGuest}
 use Rattle.vm_reclaim.specs.declared.room.Raise.{Raise}
 use Rattle.vm_reclaim.specs.Policy.{Policy}
-use Rattle.vm_reclaim.specs.Reclaim.{counts_of, grants_in, pool_granted, pool_paged, pool_revoked, revocations_in, waits_in}
-use Rattle.vm_reclaim.specs.Room.{lacking_at, needed_to_start, raise_to, room_made, surplus_counts, taken_early, with_surplus_back}
+use Rattle.vm_reclaim.specs.Reclaim.{counts_of, grants_in, pool_granted, pool_paged, pool_revoked, revocations_in, blocks_in}
+use Rattle.vm_reclaim.specs.Room.{lacking_at, needed_to_start, raise_to, room_made, surplus_counts, revocations_for_room, with_surplus_back}
 use Rattle.vm_runs.proofs.HistoryLemmas.{length-all, one_set, past}
-use Rattle.vm_runs.specs.Course.{guests_of, told_by}
+use Rattle.vm_runs.specs.Course.{guests_of, history_by}
 use Rattle.vm_sound.specs.Written.{History, happenings_at, AreAll, IsKnown, IsOrdered}
 use Rattle.vm_sound.proofs.FramesLemmas.{setup-all_taken}
 use Rattle.vm_sound.proofs.ServedLemmas.{served-all_granted, served-all_revoked, served-all_taken, served-orders, served-released, served-serviced, served-spares, served-started, served-stopped, served-with_cap, served-with_min, served-with_shares}
@@ -43,7 +43,7 @@ record IsTold (pool : PoolView) (h : History) : Type 0 where
 room-told : (policy : Policy) (raise : Option Raise) (needed : ℕ) (pool : PoolView) (h : History) → IsTold pool h → IsTold (room_made policy.tax raise needed pool) h
 room-told policy raise needed pool h told =
     let back = with_surplus_back raise needed pool in
-    let moves = taken_early policy.tax raise needed pool in
+    let moves = revocations_for_room policy.tax raise needed pool in
     let same = setup-all_taken moves back in
     record {
       paired = told.paired ∙ sym (ap length same.configs);
@@ -158,12 +158,12 @@ pub record IsGiven (w : World) (h : History) : Type 0 where
   pub written : AreAll IsWrittenBy (guests_of w) h
 
 pub bounded-given : (policy : Policy) (w : World) (lines : List (List ℕ)) (h : History) → IsSoundWorld w → AreAll IsKnown (guests_of w) h
-    → IsGiven (bounded_by policy w lines) (told_by policy w lines h)
+    → IsGiven (past_boundary_by policy w lines) (history_by policy w lines h)
 bounded-given policy w lines h sound known =
     let found = settled policy w lines in
     let granted_pool = pool_granted policy found.state (pool_paged policy found.state (pool_revoked policy found.state found.pool)) in
-    let wait = waits_in found.state in
-    let after = told_by policy w lines h in
+    let wait = blocks_in found.state in
+    let after = history_by policy w lines h in
     let last = reclaimed-told policy found.state found.pool after (lines-told policy lines (opened w) (history_after_service (guests_of w) h) (opened-told w h sound known)) in
     record {
       served = served-orders wait granted_pool last.0;

@@ -2,6 +2,7 @@
 use Rattle.std.proofs.Common.{◌≡◌, ◌∙◌, ℕ, zero, suc, List, refl, ap}
 use Rattle.vm_domains.specs.Domains.{Domain, names_of}
 use Rattle.vm_domains.specs.Machine.{MachineConfig}
+use Rattle.vm_host.specs.Boundary.{past_boundary_by}
 use Rattle.vm_host.specs.Epoch.{after_epoch}
 use Rattle.vm_host.proofs.KeptLemmas.{machine-bounded, names-bounded}
 use Rattle.vm_host.proofs.PolicyLemmas.{DecideAlike, bounded-alike}
@@ -25,7 +26,7 @@ module _ (machine : MachineConfig) (domains : List Domain) (lines : ℕ → List
   module _ (p q : Policy) (alike : DecideAlike p q) where
     -- a boundary of the same host
     next-alike : (k : ℕ) → host_after (run p) k ≡ host_after (run q) k → host_left (run p) (suc k) ≡ host_left (run q) (suc k)
-    next-alike k same = ap (λ w. (run p).bound k w) same ∙ bounded-alike p q alike (host_after (run q) k) (lines k)
+    next-alike k same = ap (λ w. past_boundary_by p w (lines k)) same ∙ bounded-alike p q alike (host_after (run q) k) (lines k)
 
     pub after-alike : (k : ℕ) → host_after (run p) k ≡ host_after (run q) k
     after-alike zero = refl

@@ -8,11 +8,14 @@ use Rattle.vm_board.specs.Pieces.{after, finished}
 use Rattle.vm_board.specs.Rounds.{Event, Place, waiting, with_worker, done, Entry, start, held_by, happens, after_events, StandsAt, IsDone, LeavesOthers, IsInterleaved}
 use Rattle.vm_board.specs.Values.{values}
 use Rattle.vm_board.proofs.Rounds.{Each, all_each, each_all, either, both_true, interleaved}
-use Rattle.vm_guest.specs.Epoch.{piece, pieces, after_pieces, epoch}
+use Rattle.vm_guest.specs.Epoch.{epoch}
 use Rattle.vm_guest.specs.Good.{IsGood, HasNothingPosted}
-use Rattle.vm_guest.specs.Happenings.{Happening, pieces_happenings, reads_by, IsWrittenBy}
+use Rattle.vm_guest.specs.Happenings.{Happening, reads_by, IsWrittenBy}
+use Rattle.vm_guest.specs.Pieces.{piece, pieces, after_pieces, pieces_happenings}
 use Rattle.vm_guest.specs.Record.{GuestRecord}
+use Rattle.vm_guest.proofs.PieceLemmas.{pieces-epoch}
 use Rattle.vm_host.specs.declared.phase.Phase.TheVariants.{Waiting}
+use Rattle.vm_host.specs.Boundary.{past_boundary_by}
 use Rattle.vm_host.specs.Epoch.{after_epoch}
 use Rattle.vm_runs.specs.Rounds.{RunEvent, work, boundary, Core, first_core, numbered, numbers_of, host_found, is_done, all_done, next_round, goes_on, after_run_events, core_after, pieces_done, happenings_so_far, IsRightNow, IsRight}
 use Rattle.vm_host.specs.World.{World, Conserves}
@@ -38,7 +41,7 @@ after-pieces (suc k) g = ap (piece k) (after-pieces k g)
 
 finished-epoch : (gs : List GuestRecord) → map (finished pieces piece) gs ≡ map epoch gs
 finished-epoch [] = refl
-finished-epoch (g ∷ gs) = ap₂ (λ x xs. x ∷ xs) (after-pieces (pieces g) g) (finished-epoch gs)
+finished-epoch (g ∷ gs) = ap₂ (λ x xs. x ∷ xs) (after-pieces (pieces g) g ∙ pieces-epoch g) (finished-epoch gs)
 
 -- where a number stands, said by the pieces that are done
 record HasDone (e : Entry GuestRecord) : Type 0 where
@@ -194,7 +197,7 @@ module _ (laws : PieceLaws) (r : Run) (served : IsServed r) where
   reached-next : (core : Core) → IsReached core → all_done core.round ≡ true → core.boundaries < r.epochs → IsReached (next_round r core)
   reached-next core reached over more = record {
     few = omega arith;
-    host = ap (r.bound core.boundaries) (done-host core reached (each_all (IsDone pieces piece) core.round (all_done-each core.round over)));
+    host = ap (λ w. past_boundary_by r.policy w (r.lines core.boundaries)) (done-host core reached (each_all (IsDone pieces piece) core.round (all_done-each core.round over)));
     events = [];
     round = refl;
   }

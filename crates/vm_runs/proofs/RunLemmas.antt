@@ -8,7 +8,7 @@ use Rattle.vm_guest.specs.Epoch.{epoch}
 use Rattle.vm_guest.specs.Good.{HasNothingPosted, IsSound}
 use Rattle.vm_guest.specs.Happenings.{Happening, epoch_happenings, reads_by, IsWrittenBy}
 use Rattle.vm_guest.specs.Record.{GuestRecord}
-use Rattle.vm_host.specs.Boundary.{bounded, bounded_by}
+use Rattle.vm_host.specs.Boundary.{past_boundary, past_boundary_by}
 use Rattle.vm_host.specs.Epoch.{after_epoch}
 use Rattle.vm_host.specs.History.{history_after_epoch}
 use Rattle.vm_host.specs.Sound.{IsSoundWorld}
@@ -79,7 +79,7 @@ record IsFound (w : World) (h : History) : Type 0 where
 
 -- what is known of a boundary
 abbrev pub BoundaryLaw : Type 0
-BoundaryLaw = (w : World) (lines : List (List ℕ)) → IsSoundWorld w → IsSoundWorld (bounded w lines)
+BoundaryLaw = (w : World) (lines : List (List ℕ)) → IsSoundWorld w → IsSoundWorld (past_boundary w lines)
 
 module _ (boundary : BoundaryLaw) (machine : MachineConfig) (domains : List Domain) (lines : ℕ → List (List ℕ)) (epochs : ℕ) (first : IsSoundWorld (first_world machine domains)) where
   abbrev policy : Policy
@@ -90,7 +90,7 @@ module _ (boundary : BoundaryLaw) (machine : MachineConfig) (domains : List Doma
 
   left-sound : (k : ℕ) → IsSoundWorld (host_after run k) → IsSoundWorld (host_left run (suc k))
   left-sound k sound =
-      subst (λ (m : MachineConfig). IsSoundWorld (bounded_by (policy_of m) (host_after run k) (lines k))) (machine-after machine domains lines epochs policy k)
+      subst (λ (m : MachineConfig). IsSoundWorld (past_boundary_by (policy_of m) (host_after run k) (lines k))) (machine-after machine domains lines epochs policy k)
       (boundary (host_after run k) (lines k) sound)
 
   left-given : (k : ℕ) → IsFound (host_after run k) (history_after run k) → IsGiven (host_left run (suc k)) (history_left run (suc k))

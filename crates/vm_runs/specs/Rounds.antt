@@ -5,11 +5,13 @@ use Rattle.std.specs.List.{All}
 use Rattle.std.specs.Option.{option_map}
 use Rattle.vm_board.specs.Rounds.{Event, Place, waiting, with_worker, done, Entry, start, held_by, happens, StandsAt, IsDone, LeavesOthers}
 use Rattle.vm_board.specs.Values.{values}
-use Rattle.vm_guest.specs.Epoch.{epoch, piece, pieces}
+use Rattle.vm_guest.specs.Epoch.{epoch}
 use Rattle.vm_guest.specs.Good.{IsGood}
-use Rattle.vm_guest.specs.Happenings.{Happening, epoch_happenings, pieces_happenings, reads_by, IsWrittenBy}
+use Rattle.vm_guest.specs.Happenings.{Happening, epoch_happenings, reads_by, IsWrittenBy}
+use Rattle.vm_guest.specs.Pieces.{piece, pieces, pieces_happenings}
 use Rattle.vm_guest.specs.Record.{GuestRecord}
 use Rattle.vm_host.specs.declared.phase.Phase.TheVariants.{Waiting}
+use Rattle.vm_host.specs.Boundary.{past_boundary_by}
 use Rattle.vm_runs.specs.Course.{Run, guests_of, history_left, host_after, host_left, run_of, with_guests}
 use Rattle.vm_domains.specs.Domains.{Domain}
 use Rattle.vm_domains.specs.Limits.{AreWithinLimits}
@@ -66,11 +68,15 @@ abbrev pub all_done : List (Entry GuestRecord) → Bool
 all_done [] = true
 all_done (e ∷ round) = is_done e.place && all_done round
 
+-- the host that the next boundary leaves
+abbrev pub next_host : Run → Core → World
+next_host r core = past_boundary_by r.policy (host_found core) (r.lines core.boundaries)
+
 -- the boundary is done, and the running guests are the numbers of a new round, all waiting
 abbrev pub next_round : Run → Core → Core
 next_round r core = record {
-  host = r.bound core.boundaries (host_found core);
-  round = start (values (guests_of (r.bound core.boundaries (host_found core))));
+  host = next_host r core;
+  round = start (values (guests_of (next_host r core)));
   boundaries = suc core.boundaries;
 }
 

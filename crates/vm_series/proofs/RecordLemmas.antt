@@ -10,7 +10,7 @@ use Rattle.csv.specs.Writing.{comma, end_text, field_text, fields_text, is_blank
 use Rattle.vm_guest.specs.declared.view.GuestView.{GuestView}
 use Rattle.vm_plan.specs.declared.state.State.{State}
 use Rattle.vm_plan.specs.declared.state.State.TheVariants.{High, Soft, Hard, Low}
-use Rattle.vm_sim.specs.Lines.{state_word}
+use Rattle.vm_plan.specs.State.{state_word}
 use Rattle.vm_series.specs.Csv.{csv_text, flag, guest_record, guest_records, header, lone_record, name_at, number_or_empty, records_at, records_of, records_of_view, records_text, rfc4180, view_in}
 use Rattle.vm_series.specs.Records.{comma_then, empty_text, epoch_text, head_text, name_text, piece_at, record_at, view_record, view_text}
 use Rattle.vm_series.specs.Rows.{Row, Rows}

@@ -7,7 +7,7 @@ use Rattle.csv.specs.declared.writer.Writer.{Writer}
 use Rattle.csv.specs.declared.writer.WriterBuilder.{WriterBuilder}
 use Rattle.csv.specs.Writing.{default_writer, fields_written, has_written, row_text, with_terminator, writer_setup}
 use Rattle.vm_guest.specs.declared.view.GuestView.{GuestView}
-use Rattle.vm_sim.specs.Lines.{state_word}
+use Rattle.vm_plan.specs.State.{state_word}
 use Rattle.vm_series.specs.Rows.{Row, Rows}
 
 -- commas, quotes where a field needs them, and CRLF after each record (RFC 4180)

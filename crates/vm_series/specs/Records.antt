@@ -5,7 +5,7 @@ use Rattle.std.specs.List.{flat_map, list_any, range_with_len}
 use Rattle.csv.specs.declared.parser.Terminator.TheVariants.{CRLF}
 use Rattle.csv.specs.Writing.{comma, end_text, field_text}
 use Rattle.vm_guest.specs.declared.view.GuestView.{GuestView}
-use Rattle.vm_sim.specs.Lines.{state_word}
+use Rattle.vm_plan.specs.State.{state_word}
 use Rattle.vm_series.specs.Csv.{flag, number_or_empty, rfc4180, view_in}
 use Rattle.vm_series.specs.Rows.{Row}
 

@@ -10,9 +10,7 @@ use crate::rows::{EpochRow, Series};
 use std::alloc::{AllocError, Global};
 use std::thread::Threads;
 use vm_host::{Gate, Host};
-use vm_sim::{RunError, SteppedRun};
-
-const MAX_WORKERS: u32 = 64;
+use vm_sim::{MAX_WORKERS, RunError, SteppedRun};
 
 fn name_at(host: &Host, position: usize) -> &str
     ensures { result.now ≡ unwrap_or (slice_get host.now.names position) [] }

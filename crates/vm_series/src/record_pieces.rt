@@ -1,28 +1,15 @@
 // The pieces of records, whose numbers are put together from their end.
 ghost use Rattle.std.specs.Prelude.{◌≡◌, ◌+◌, ◌≤◌, ◌∷◌, ◌++◌, drop, length};
 ghost use Rattle.std.specs.Fmt.{decimal};
-ghost use Rattle.vm_sim.specs.Lines.{state_word};
 ghost use Rattle.vm_series.specs.Csv.{flag, number_or_empty};
 ghost use Rattle.vm_series.specs.Records.{comma_then, head_text, view_text};
 
 use crate::rows::EpochRow;
 use itoa::write_digits;
-use vm_host::{GuestView, State};
+use vm_host::GuestView;
 
 // Room for nine fields, each a comma and a number of at most twenty digits, and for the end.
 const ROOM: usize = 200;
-
-fn state_word(state: State) -> &'static str
-    ensures word { result.now ≡ state_word state }
-    ensures short { length result.now ≤ 4 }
-{
-    match state {
-        State::High => "high",
-        State::Soft => "soft",
-        State::Hard => "hard",
-        State::Low => "low",
-    }
-}
 
 // Puts a byte before a place, and returns where it stands.
 #[inline(always)]
@@ -110,7 +97,7 @@ pub(crate) fn put_head(line: &mut Line, row: &EpochRow) -> usize
     ensures written { drop result line.new ≡ head_text row.now }
 {
     let free = put_number(line, ROOM, u64::from(row.free()));
-    let state = put_word(line, free, state_word(row.state()));
+    let state = put_word(line, free, row.state().as_str());
     put_digits(line, state, u64::from(row.epoch()))
 }
 

@@ -7,7 +7,8 @@ ghost use Rattle.vm_command_line.specs.Words.{HasWorkersInRange};
 ghost use Rattle.vm_series.specs.Rows.{rows_of};
 ghost use Rattle.vm_series_program.specs.CommandLine.{AreTaken, wants_drawing};
 ghost use Rattle.vm_series_program.specs.Written.{StopsEarly, Writes};
-ghost use Rattle.vm_sim.specs.Run.{NewlyFailed, RunsConfig};
+ghost use Rattle.vm_sim.specs.Run.{RunsConfig};
+ghost use Rattle.vm_streams.specs.Streams.{NewlyFailed};
 ghost use Rattle.vm_words.specs.Words.{has_flag};
 
 use crate::line::LINE;

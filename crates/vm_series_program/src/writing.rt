@@ -4,7 +4,8 @@ ghost use Rattle.vm_command_line.specs.Words.{HasWorkersInRange};
 ghost use Rattle.vm_series.specs.Rows.{rows_of};
 ghost use Rattle.vm_series_program.specs.Written.{FailsOnSeries, IsTextOf, Writes};
 ghost use Rattle.vm_sim.specs.declared.run_error.RunError.TheVariants.{Write};
-ghost use Rattle.vm_sim.specs.Run.{MeansConfig, NewlyFailed};
+ghost use Rattle.vm_sim.specs.Run.{MeansConfig};
+ghost use Rattle.vm_streams.specs.Streams.{NewlyFailed};
 ghost use Rattle.vm_words.specs.Words.{has_flag};
 
 use crate::line::SVG;

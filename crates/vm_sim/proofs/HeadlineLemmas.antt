@@ -16,14 +16,14 @@ use Rattle.vm_reclaim.specs.Policy.{policy_of}
 use Rattle.vm_runs.specs.Served.{IsServed, LawOfCourse}
 use Rattle.vm_sound.specs.Written.{happenings_at}
 use Rattle.vm_sim.proofs.CourseLemmas.{machine-in}
-use Rattle.vm_sim.specs.Course.{course_of, lines_at, ready_world, run_in, world_after}
-use Rattle.vm_sim.specs.Headline.{AddsUp, ReadsLastWrites, RevokesFairly, history_before, reads_of_last_writes, reads_shown}
+use Rattle.vm_sim.specs.Course.{course_of, lines_at, ready_world, world_after}
+use Rattle.vm_sim.specs.Headline.{ConservesFrames, ReadsLastWrites, RevokesFairly, history_ready, reads_of_last_writes, reads_shown}
 
 module _ (c : Config) (is : IsConfig c) (law : LawOfCourse) where
-  served : IsServed (run_in (course_of c))
+  served : IsServed (course_of c)
   served = law c.machine c.domains (lines_at c) c.epochs is.machine is.domains is.few
 
-  pub adds-up : AddsUp c
+  pub adds-up : ConservesFrames c
   adds-up = record {
     boundaries = λ k. (let left = served.left_right (suc k) in left.conserves);
     epochs = λ k. (let after = served.after_right k in after.conserves);
@@ -59,12 +59,12 @@ shown-reads before (Some g) reads = ap Some (reads g refl)
 
 module _ (c : Config) (is : IsConfig c) (law : LawOfCourse) where
   reads_at_epoch : (k position : ℕ) → reads_shown (world_after c (suc k)) position
-      ≡ reads_of_last_writes (happenings_at (history_before c k) position) (guest_at (ready_world c k) position)
+      ≡ reads_of_last_writes (happenings_at (history_ready c k) position) (guest_at (ready_world c k) position)
   reads_at_epoch k position =
       let runs = served c is law in
       let guests = (ready_world c k).pool.guests in
       ap (option_map (λ g. g.reads)) (epoch_at guests position)
-      ∙ shown-reads (happenings_at (history_before c k) position) (guest_in guests position)
+      ∙ shown-reads (happenings_at (history_ready c k) position) (guest_in guests position)
       (λ g here. runs.reads (suc k) position g (entry_of (slice_get guests position) g here))
 
   pub reads-last-writes : ReadsLastWrites c

@@ -9,16 +9,17 @@ use Rattle.vm_config.specs.Migration.{in_hundredths, migrated}
 use Rattle.vm_host.specs.declared.boundary.Boundary.{Boundary}
 use Rattle.vm_host.specs.declared.boundary.Refusal.{Refusal}
 use Rattle.vm_host.specs.Answers.{AnswerValue}
-use Rattle.vm_host.specs.Boundary.{bounded_by, boundary_by, finished, opened, told_after}
+use Rattle.vm_host.specs.Boundary.{past_boundary_by, boundary_by, finished, opened, boundary_after_lines}
 use Rattle.vm_host.specs.Commands.{after_line, after_lines, answer_to, answers_to, decided}
 use Rattle.vm_host.specs.Decisions.{◌>>=◌, Admitted, admission_of, decision_on, decision_on_line, readable}
 use Rattle.vm_host.specs.Epoch.{after_epoch}
 use Rattle.vm_host.specs.World.{World}
 use Rattle.vm_host.proofs.PolicyLemmas.{DecideAlike, bounded-alike, boundary-alike}
 use Rattle.vm_reclaim.specs.Policy.{Policy, policy_by_percents, policy_of}
-use Rattle.vm_sim.specs.Course.{Course, after_boundary, course_by, course_of, next_world, told_by_boundary, world_after, world_in}
+use Rattle.vm_runs.specs.Course.{Run, host_after}
+use Rattle.vm_sim.specs.Course.{after_boundary, course_by, course_of, next_world, boundary_of_lines, world_after}
 use Rattle.vm_sim.specs.Migration.{converted, report_by_percents, world_by_percents}
-use Rattle.vm_sim.specs.Report.{answer_lines, boundary_text, boundary_told, end_text, epoch_text, machine_line, report_of, told_at, told_before, told_in_epoch}
+use Rattle.vm_sim.specs.Report.{answer_lines, boundary_text, report_of_boundary, end_text, epoch_text, machine_line, report_of, report_at, report_of_epochs, report_of_epoch}
 
 -- ---- no decision looks at the tax or the percents of the machine but through the policy
 
@@ -66,16 +67,16 @@ module _ (policy : Policy) where
   finished-converted : (w : World) → finished policy (converted w) ≡ converted (finished policy w)
   finished-converted w = refl
 
-  told-converted : (w : World) (answers : List AnswerValue) → told_after policy (converted w) answers ≡ told_after policy w answers
+  told-converted : (w : World) (answers : List AnswerValue) → boundary_after_lines policy (converted w) answers ≡ boundary_after_lines policy w answers
   told-converted w answers = refl
 
-  bounded-converted : (w : World) (lines : List (List ℕ)) → bounded_by policy (converted w) lines ≡ converted (bounded_by policy w lines)
+  bounded-converted : (w : World) (lines : List (List ℕ)) → past_boundary_by policy (converted w) lines ≡ converted (past_boundary_by policy w lines)
   bounded-converted w lines =
       ap (finished policy) (lines-converted lines (opened w)) ∙ finished-converted (after_lines policy (opened w) lines)
 
   boundary-converted : (w : World) (lines : List (List ℕ)) → boundary_by policy (converted w) lines ≡ boundary_by policy w lines
   boundary-converted w lines =
-      (λ i. told_after policy (lines-converted lines (opened w) i) (answers-converted lines (opened w) i))
+      (λ i. boundary_after_lines policy (lines-converted lines (opened w) i) (answers-converted lines (opened w) i))
       ∙ told-converted (after_lines policy (opened w) lines) (answers_to policy (opened w) lines)
 
 -- ---- texts name no tax and no percents
@@ -104,26 +105,26 @@ module _ (p q : Policy) (alike : DecideAlike p q) (lines : List (List ℕ)) (w :
   unfolding after_boundary
   bounded-both = bounded-converted q w lines ∙ ap converted (sym (bounded-alike p q alike w lines))
 
-  told-both : told_by_boundary q lines (converted w) ≡ told_by_boundary p lines w
-  unfolding told_by_boundary
+  told-both : boundary_of_lines q lines (converted w) ≡ boundary_of_lines p lines w
+  unfolding boundary_of_lines
   told-both = boundary-converted q w lines ∙ sym (boundary-alike p q alike w lines)
 
-  boundary_told-both : (k : ℕ) → boundary_told k q lines (converted w) ≡ boundary_told k p lines w
-  unfolding boundary_told
-  boundary_told-both k =
-      (λ i. boundary_text k (bounded-both i) (told-both i)) ∙ boundary_text-converted k (after_boundary p lines w) (told_by_boundary p lines w)
+  report_of_boundary-both : (k : ℕ) → report_of_boundary k q lines (converted w) ≡ report_of_boundary k p lines w
+  unfolding report_of_boundary
+  report_of_boundary-both k =
+      (λ i. boundary_text k (bounded-both i) (told-both i)) ∙ boundary_text-converted k (after_boundary p lines w) (boundary_of_lines p lines w)
 
-  told_in_epoch-both : (k : ℕ) → told_in_epoch k q lines (converted w) ≡ told_in_epoch k p lines w
-  unfolding told_in_epoch
-  told_in_epoch-both k = λ i. boundary_told-both k i ++ (ap epoch_text next-converted ∙ epoch_text-converted (next_world p lines w)) i
+  report_of_epoch-both : (k : ℕ) → report_of_epoch k q lines (converted w) ≡ report_of_epoch k p lines w
+  unfolding report_of_epoch
+  report_of_epoch-both k = λ i. report_of_boundary-both k i ++ (ap epoch_text next-converted ∙ epoch_text-converted (next_world p lines w)) i
 
 -- ---- a run
 
 module _ (c : Config) (alike : DecideAlike (policy_by_percents c.machine) (policy_of (in_hundredths c.machine))) where
-  abbrev whole : Course
+  abbrev whole : Run
   whole = course_by (policy_by_percents c.machine) c
 
-  abbrev fine : Course
+  abbrev fine : Run
   fine = course_of (migrated c)
 
   pub hosts-migrated : (k : ℕ) → world_after (migrated c) k ≡ converted (world_by_percents c k)
@@ -131,17 +132,17 @@ module _ (c : Config) (alike : DecideAlike (policy_by_percents c.machine) (polic
   hosts-migrated zero = refl
   hosts-migrated (suc k) =
       ap (next_world fine.policy (fine.lines k)) (hosts-migrated k)
-      ∙ next-converted whole.policy fine.policy alike (whole.lines k) (world_in whole k)
+      ∙ next-converted whole.policy fine.policy alike (whole.lines k) (host_after whole k)
 
-  told-migrated : (k : ℕ) → told_at fine k ≡ told_at whole k
+  told-migrated : (k : ℕ) → report_at fine k ≡ report_at whole k
   told-migrated k =
-      ap (told_in_epoch k fine.policy (fine.lines k)) (hosts-migrated k)
-      ∙ told_in_epoch-both whole.policy fine.policy alike (whole.lines k) (world_in whole k) k
+      ap (report_of_epoch k fine.policy (fine.lines k)) (hosts-migrated k)
+      ∙ report_of_epoch-both whole.policy fine.policy alike (whole.lines k) (host_after whole k) k
 
-  before-migrated : (k : ℕ) → told_before fine k ≡ told_before whole k
+  before-migrated : (k : ℕ) → report_of_epochs fine k ≡ report_of_epochs whole k
   before-migrated zero = refl
   before-migrated (suc k) = λ i. before-migrated k i ++ told-migrated k i
 
   pub report-migrated : report_of (migrated c) ≡ report_by_percents c
   report-migrated = λ i.
-      before-migrated c.epochs i ++ (ap end_text (hosts-migrated c.epochs) ∙ end_text-converted (world_in whole c.epochs)) i
+      before-migrated c.epochs i ++ (ap end_text (hosts-migrated c.epochs) ∙ end_text-converted (host_after whole c.epochs)) i

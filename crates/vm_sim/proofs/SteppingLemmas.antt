@@ -8,7 +8,7 @@ use Rattle.vm_host.specs.declared.phase.Phase.TheVariants.{Waiting, Ready, Faile
 use Rattle.vm_host.specs.Epoch.{after_epoch}
 use Rattle.vm_host.specs.World.{World, first_world}
 use Rattle.vm_reclaim.specs.Policy.{policy_of}
-use Rattle.vm_sim.specs.Course.{after_boundary, agenda_of, boundary_at, course_of, lines_for, ready_world, told_by_boundary, world_after}
+use Rattle.vm_sim.specs.Course.{after_boundary, agenda_of, boundary_at, course_of, lines_for, ready_world, boundary_of_lines, world_after}
 use Rattle.vm_sim.specs.Stepping.{RunState, run_after, run_ready}
 use Rattle.vm_sim.proofs.CourseLemmas.{bound_in_course, boundary_in_course, setup-in, setup-left, IsSetUpAs}
 
@@ -29,10 +29,10 @@ ready_run c k old host is bound =
 
 -- what it tells
 told_bound : RunState → Boundary
-told_bound run = told_by_boundary (policy_of run.host.machine) (lines_for run.host.names run.agenda run.done) run.host
+told_bound run = boundary_of_lines (policy_of run.host.machine) (lines_for run.host.names run.agenda run.done) run.host
 
 pub told_run : (c : Config) (k : ℕ) (old : RunState) (told : Boundary) → old ≡ run_after c k
-    → told ≡ told_by_boundary (policy_of old.host.machine) (lines_for old.host.names old.agenda old.done) old.host → told ≡ boundary_at c k
+    → told ≡ boundary_of_lines (policy_of old.host.machine) (lines_for old.host.names old.agenda old.done) old.host → told ≡ boundary_at c k
 unfolding told_bound
 told_run c k old told is tells =
     boundary_in_course c.epochs (agenda_of c) (first_world c.machine c.domains) k (world_after c k) told refl (tells ∙ ap told_bound is)

@@ -2,7 +2,8 @@
 use Rattle.std.specs.Prelude.{ℕ, suc, ◌≡◌, ◌==◌, ◌<◌, ◌≤◌, List, drop, filter, length, IfSome, slice_get, slice_index_or}
 use Rattle.vm_config.specs.Schedule.{ScheduledLine}
 use Rattle.vm_host.specs.World.{World}
-use Rattle.vm_sim.specs.Course.{Course, course_from}
+use Rattle.vm_runs.specs.Course.{Run}
+use Rattle.vm_sim.specs.Course.{course_from}
 use Rattle.vm_sim.specs.declared.agenda.Agenda.{Agenda}
 
 -- what is asked of the host of a run
@@ -12,7 +13,7 @@ pub record RunAgenda : Type 0 where
   pub epochs : ℕ
 
 -- the course of a host that is asked this
-abbrev pub course_asked : RunAgenda → World → Course
+abbrev pub course_asked : RunAgenda → World → Run
 course_asked asked w = course_from asked.epochs asked.agenda w
 
 -- the commands of an epoch, in order

@@ -1,13 +1,13 @@
--- The course of a run: its boundaries and epochs, one after the other, with one worker that serves the guests in order.
+-- The lines of each boundary, and the course of a configuration.
 use Rattle.std.specs.Prelude.{ℕ, zero, suc, ◌==◌, Bool, true, false, List, [], ◌∷◌, ◌++◌, codes, if◌then◌else◌}
 use Rattle.vm_config.specs.declared.config.Config.{Config}
 use Rattle.vm_config.specs.Schedule.{ScheduledLine}
 use Rattle.vm_host.specs.declared.boundary.Boundary.{Boundary}
-use Rattle.vm_host.specs.Boundary.{bounded_by, boundary_by}
+use Rattle.vm_host.specs.Boundary.{past_boundary_by, boundary_by}
 use Rattle.vm_host.specs.Epoch.{after_epoch}
 use Rattle.vm_host.specs.World.{World, first_world}
 use Rattle.vm_reclaim.specs.Policy.{Policy, policy_of}
-use Rattle.vm_runs.specs.Course.{Run, host_after, host_left, told_by}
+use Rattle.vm_runs.specs.Course.{Run, host_after, host_left}
 use Rattle.vm_sim.specs.declared.agenda.Agenda.{Agenda}
 
 -- ---- the lines of a boundary
@@ -34,47 +34,24 @@ abbrev pub lines_for : List (List ℕ) → Agenda → ℕ → List (List ℕ)
 lines_for names agenda zero = autostart_lines names agenda.autostart ++ lines_of_epoch 0 agenda.commands
 lines_for names agenda (suc k) = lines_of_epoch (suc k) agenda.commands
 
--- ---- the hosts
+-- ---- a boundary and an epoch
 
--- what a run depends on
-pub record Course : Type 0 where
-  -- by what the host decides
-  pub policy : Policy
-  -- the lines of the boundary before each epoch
-  pub lines : ℕ → List (List ℕ)
-  -- the host before the first epoch
-  pub first : World
-  -- how many epochs it has
-  pub epochs : ℕ
-
--- the host after a boundary with these lines, and what it tells
+-- the host after a boundary with these lines
 unfoldable pub after_boundary : Policy → List (List ℕ) → World → World
-after_boundary policy lines w = bounded_by policy w lines
+after_boundary policy lines w = past_boundary_by policy w lines
 
-unfoldable pub told_by_boundary : Policy → List (List ℕ) → World → Boundary
-told_by_boundary policy lines w = boundary_by policy w lines
+-- what that boundary did
+unfoldable pub boundary_of_lines : Policy → List (List ℕ) → World → Boundary
+boundary_of_lines policy lines w = boundary_by policy w lines
 
 -- the host after an epoch, which begins with a boundary
 abbrev pub next_world : Policy → List (List ℕ) → World → World
 next_world policy lines w = after_epoch (after_boundary policy lines w)
 
--- the run: one worker serves the guests in order
-abbrev pub run_in : Course → Run
-run_in course = record {
-  first = course.first;
-  bound = λ k w. bounded_by course.policy w (course.lines k);
-  told = λ k w h. told_by course.policy w (course.lines k) h;
-  epochs = course.epochs;
-}
-
--- the host after so many epochs
-abbrev pub world_in : Course → ℕ → World
-world_in course k = host_after (run_in course) k
-
 -- ---- a configuration
 
 -- the course of a host that decides by the numbers of its machine
-abbrev pub course_from : ℕ → Agenda → World → Course
+abbrev pub course_from : ℕ → Agenda → World → Run
 course_from epochs agenda w = record {
   policy = policy_of w.machine;
   lines = lines_for w.names agenda;
@@ -87,11 +64,11 @@ abbrev pub agenda_of : Config → Agenda
 agenda_of c = record { autostart = c.autostart; commands = c.commands }
 
 -- the course of a configuration
-abbrev pub course_of : Config → Course
+abbrev pub course_of : Config → Run
 course_of c = course_from c.epochs (agenda_of c) (first_world c.machine c.domains)
 
 -- the same by another policy
-abbrev pub course_by : Policy → Config → Course
+abbrev pub course_by : Policy → Config → Run
 course_by policy c = record (course_of c) { policy = policy }
 
 -- the lines of the boundary before epoch k
@@ -100,12 +77,12 @@ lines_at c k = (course_of c).lines k
 
 -- the host after so many epochs
 abbrev pub world_after : Config → ℕ → World
-world_after c k = world_in (course_of c) k
+world_after c k = host_after (course_of c) k
 
 -- the host that the boundary before epoch k leaves
 abbrev pub ready_world : Config → ℕ → World
-ready_world c k = host_left (run_in (course_of c)) (suc k)
+ready_world c k = host_left (course_of c) (suc k)
 
 -- what the boundary before epoch k tells
 abbrev pub boundary_at : Config → ℕ → Boundary
-boundary_at c k = told_by_boundary (policy_of c.machine) (lines_at c k) (world_after c k)
+boundary_at c k = boundary_of_lines (policy_of c.machine) (lines_at c k) (world_after c k)

@@ -10,10 +10,10 @@ use Rattle.vm_host.specs.World.{World, Conserves, guest_at}
 use Rattle.vm_reclaim.specs.Policy.{policy_of}
 use Rattle.vm_runs.specs.Course.{history_left}
 use Rattle.vm_sound.specs.Written.{History, happenings_at}
-use Rattle.vm_sim.specs.Course.{course_of, lines_at, ready_world, run_in, world_after}
+use Rattle.vm_sim.specs.Course.{course_of, lines_at, ready_world, world_after}
 
 -- frames free, held by guests and set aside for them add up to the machine, at each boundary and after each epoch
-pub record AddsUp (c : Config) : Type 0 where
+pub record ConservesFrames (c : Config) : Type 0 where
   pub boundaries : (k : ℕ) → Conserves (ready_world c k)
   pub epochs : (k : ℕ) → Conserves (world_after c k)
 
@@ -21,9 +21,9 @@ pub record AddsUp (c : Config) : Type 0 where
 pub record RevokesFairly (c : Config) : Type 0 where
   pub boundaries : (k : ℕ) → IsFairBoundary (policy_of c.machine) (world_after c k) (lines_at c k)
 
--- what happened to each guest before the steps of epoch k
-abbrev pub history_before : Config → ℕ → History
-history_before c k = history_left (run_in (course_of c)) (suc k)
+-- what happened to each guest before epoch k, once the boundary before it is done
+abbrev pub history_ready : Config → ℕ → History
+history_ready c k = history_left (course_of c) (suc k)
 
 -- the reads of the guest at a position that a host shows, if one runs there
 abbrev pub reads_shown : World → ℕ → Option (List PageRead)
@@ -38,4 +38,4 @@ reads_of_last_writes before (Some g) = Some (reads_by before (epoch_happenings g
 -- zeros
 pub record ReadsLastWrites (c : Config) : Type 0 where
   pub epochs : (k position : ℕ) → reads_shown (world_after c (suc k)) position
-      ≡ reads_of_last_writes (happenings_at (history_before c k) position) (guest_at (ready_world c k) position)
+      ≡ reads_of_last_writes (happenings_at (history_ready c k) position) (guest_at (ready_world c k) position)

@@ -6,7 +6,7 @@ use Rattle.vm_balloon.specs.declared.stats.Stats.{Stats}
 use Rattle.vm_guest.specs.declared.reads.PageRead.{PageRead}
 use Rattle.vm_guest.specs.declared.view.GuestView.{GuestView}
 use Rattle.vm_plan.specs.declared.state.State.{State}
-use Rattle.vm_plan.specs.declared.state.State.TheVariants.{High, Soft, Hard, Low}
+use Rattle.vm_plan.specs.State.{state_word}
 use Rattle.vm_host.specs.declared.boundary.DomainStatistics.{DomainStatistics}
 use Rattle.vm_host.specs.declared.boundary.Outcome.{Outcome}
 use Rattle.vm_host.specs.declared.boundary.Outcome.TheVariants.{Done, Refused, Shown}
@@ -47,7 +47,7 @@ fault_lines s =
     memory_line (codes "swap_in") s.swap_in ++ (memory_line (codes "swap_out") s.swap_out
     ++ (count_line (codes "major_fault") s.major_faults ++ count_line (codes "minor_fault") s.minor_faults))
 
--- and of memory
+-- what the driver told of memory
 unfoldable pub memory_lines : Stats → List ℕ
 memory_lines s =
     memory_line (codes "unused") s.free ++ (memory_line (codes "available") s.total ++ memory_line (codes "usable") s.available)
@@ -76,12 +76,6 @@ unfoldable pub block_line : List ℕ → List ℕ
 block_line name = codes "block " ++ (name ++ codes "\n")
 
 -- ---- the machine's state
-
-abbrev pub state_word : State → List ℕ
-state_word High = codes "high"
-state_word Soft = codes "soft"
-state_word Hard = codes "hard"
-state_word Low = codes "low"
 
 unfoldable pub state_line : State → ℕ → List ℕ
 state_line state free = codes "state " ++ (state_word state ++ (codes " free " ++ (decimal free ++ codes "\n")))

@@ -15,7 +15,8 @@ use Rattle.vm_pool.specs.Pool.{total_held}
 use Rattle.vm_pool.specs.Readers.{stalled_of}
 use Rattle.vm_reclaim.specs.declared.told.Paged.{Paged}
 use Rattle.vm_reclaim.specs.Policy.{Policy}
-use Rattle.vm_sim.specs.Course.{Course, after_boundary, course_by, course_of, next_world, told_by_boundary, world_in}
+use Rattle.vm_runs.specs.Course.{Run, host_after}
+use Rattle.vm_sim.specs.Course.{after_boundary, course_by, course_of, next_world, boundary_of_lines}
 use Rattle.vm_sim.specs.Lines.{block_line, command_line, guest_line, move_line, outcome_lines, read_line, stall_line, state_line}
 
 -- the positions of the domains
@@ -102,26 +103,26 @@ end_text w = codes "end\n" ++ (flat_map (lines_at_end w) (positions w) ++ machin
 
 -- ---- a whole run
 
--- what is told of the boundary before epoch k, which finds this host
-unfoldable pub boundary_told : ℕ → Policy → List (List ℕ) → World → List ℕ
-boundary_told k policy lines w = boundary_text k (after_boundary policy lines w) (told_by_boundary policy lines w)
+-- the report of the boundary before epoch k, which finds this host
+unfoldable pub report_of_boundary : ℕ → Policy → List (List ℕ) → World → List ℕ
+report_of_boundary k policy lines w = boundary_text k (after_boundary policy lines w) (boundary_of_lines policy lines w)
 
--- what is told of epoch k: of its boundary, and of what its guests did
-unfoldable pub told_in_epoch : ℕ → Policy → List (List ℕ) → World → List ℕ
-told_in_epoch k policy lines w = boundary_told k policy lines w ++ epoch_text (next_world policy lines w)
+-- the report of epoch k: of its boundary, and of what its guests did
+unfoldable pub report_of_epoch : ℕ → Policy → List (List ℕ) → World → List ℕ
+report_of_epoch k policy lines w = report_of_boundary k policy lines w ++ epoch_text (next_world policy lines w)
 
 -- the same of a course
-abbrev pub told_at : Course → ℕ → List ℕ
-told_at course k = told_in_epoch k course.policy (course.lines k) (world_in course k)
+abbrev pub report_at : Run → ℕ → List ℕ
+report_at course k = report_of_epoch k course.policy (course.lines k) (host_after course k)
 
--- what is told of so many epochs
-abbrev pub told_before : Course → ℕ → List ℕ
-told_before course zero = []
-told_before course (suc k) = told_before course k ++ told_at course k
+-- the report of the first epochs, so many of them
+abbrev pub report_of_epochs : Run → ℕ → List ℕ
+report_of_epochs course zero = []
+report_of_epochs course (suc k) = report_of_epochs course k ++ report_at course k
 
 -- the epochs, and the end
-abbrev pub report_in : Course → List ℕ
-report_in course = told_before course course.epochs ++ end_text (world_in course course.epochs)
+abbrev pub report_in : Run → List ℕ
+report_in course = report_of_epochs course course.epochs ++ end_text (host_after course course.epochs)
 
 -- the report of a configuration
 abbrev pub report_of : Config → List ℕ

@@ -1,5 +1,5 @@
--- What a run does to its reader and its writer. Of both it names the bytes before and after, where they are known.
-use Rattle.std.specs.Prelude.{◌≡◌, ◌⊎◌, ◌<◌, ℕ, List, length, Bool, true, false, Option, Ok, Err, IfSome}
+-- What a run does to its reader and its writer: for each, the bytes before and after, where they are known.
+use Rattle.std.specs.Prelude.{◌≡◌, ◌⊎◌, ◌<◌, ℕ, List, length, Bool, true, Option, Ok, Err, IfSome}
 use Rattle.std.specs.Io.KnownBytes.{Consumes, IsAtEnd, Keeps}
 use Rattle.vm_config.specs.declared.config.Config.{Config as Configuration}
 use Rattle.vm_config.specs.Reading.{config_of}
@@ -7,10 +7,6 @@ use Rattle.vm_streams.specs.Streams.{AppendsFront}
 use Rattle.vm_sim.specs.declared.run_error.RunError.{RunError}
 use Rattle.vm_sim.specs.declared.run_error.RunError.TheVariants.{Config, Read, Write, Memory, Workers}
 use Rattle.vm_sim.specs.Report.{report_of}
-
--- a reader or a writer that had not failed before has failed since
-abbrev pub NewlyFailed : Bool → Bool → Type 0
-NewlyFailed old new = (old ≡ false) × (new ≡ true)
 
 -- why a report was cut short: the writer failed, or memory was refused and the writer did not fail
 abbrev pub CutShort : Bool → Bool → RunError → Type 0

@@ -31,13 +31,13 @@ impl Model for Calendar {
 
 // For how many epochs and commands there is room.
 #[derive(Clone, Copy)]
-struct Room {
+struct CalendarSize {
     epochs: usize,
     commands: usize,
 }
 
 // The room with a place for one command more, which is the last of so many. One that never runs needs none.
-fn more_room(room: Room, command: &Scheduled, count: usize, epochs: u32) -> Room
+fn more_room(room: CalendarSize, command: &Scheduled, count: usize, epochs: u32) -> CalendarSize
     ensures runs { command.now.at < epochs
         → (result.epochs ≡ max room.epochs (command.now.at + 1)) × (result.commands ≡ count) }
     ensures never_runs { epochs ≤ command.now.at → result ≡ room }
@@ -46,19 +46,19 @@ fn more_room(room: Room, command: &Scheduled, count: usize, epochs: u32) -> Room
     if epoch >= epochs {
         return room;
     }
-    Room {
+    CalendarSize {
         epochs: room.epochs.max(epoch as usize + 1),
         commands: count,
     }
 }
 
 // The least room in which all commands that run have their places.
-fn room_for(commands: &[Scheduled], epochs: u32) -> Room
+fn room_for(commands: &[Scheduled], epochs: u32) -> CalendarSize
     ensures enough { HaveRoom epochs commands.now (length commands.now) result.epochs result.commands }
     ensures least { (rooms places : ℕ) → HaveRoom epochs commands.now (length commands.now) rooms places
         → (result.epochs ≤ rooms) × (result.commands ≤ places) }
 {
-    let mut room = Room {
+    let mut room = CalendarSize {
         epochs: 0,
         commands: 0,
     };

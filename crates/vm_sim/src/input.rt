@@ -2,7 +2,8 @@
 ghost use Rattle.std.specs.Prelude.{◌≡◌, ◌≤◌, ℕ, List, length, IfErr, IfOk, OnOk, Err};
 ghost use Rattle.std.specs.Io.KnownBytes.{Consumes, IsAtEnd};
 ghost use Rattle.vm_sim.specs.declared.run_error.RunError.TheVariants.{Read};
-ghost use Rattle.vm_sim.specs.Run.{FailsToRead, NewlyFailed};
+ghost use Rattle.vm_sim.specs.Run.{FailsToRead};
+ghost use Rattle.vm_streams.specs.Streams.{NewlyFailed};
 
 use crate::run_error::RunError;
 use std::alloc::Global;

@@ -4,7 +4,7 @@ ghost use Rattle.vm_config.specs.declared.config.Config.{Config};
 ghost use Rattle.vm_config.specs.Limits.{IsConfig};
 ghost use Rattle.vm_config.specs.Migration.{migrated};
 ghost use Rattle.vm_sim.specs.Course.{world_after};
-ghost use Rattle.vm_sim.specs.Headline.{AddsUp, ReadsLastWrites, RevokesFairly};
+ghost use Rattle.vm_sim.specs.Headline.{ConservesFrames, ReadsLastWrites, RevokesFairly};
 ghost use Rattle.vm_sim.specs.Migration.{converted, report_by_percents, world_by_percents};
 ghost use Rattle.vm_sim.specs.Report.{report_of};
 
@@ -18,7 +18,7 @@ use vm_runs::law_course;
 /// (`revocations`).
 pub fn law_runs()
     ensures reads { (c : Config) → IsConfig c → ReadsLastWrites c }
-    ensures conservation { (c : Config) → IsConfig c → AddsUp c }
+    ensures conservation { (c : Config) → IsConfig c → ConservesFrames c }
     ensures revocations { (c : Config) → IsConfig c → RevokesFairly c }
 {
     law_boundary();

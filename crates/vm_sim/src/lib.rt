@@ -26,7 +26,7 @@ pub use input::read_text;
 pub use law::{law_migration, law_runs};
 pub use report::{boundary_text, end_text, epoch_text};
 pub use run_error::RunError;
-pub use simulation::run;
+pub use simulation::{MAX_WORKERS, run};
 pub use stepping::SteppedRun;
 pub use vm_config::{
     Autostart, Config, ConfigError, ConfigV1, Domains, Fault, Key, MachineSpec, Part, Place,

@@ -2,7 +2,7 @@
 ghost use Rattle.std.specs.Prelude.{◌≡◌, ◌++◌, OnOk, codes, string_bytes};
 ghost use Rattle.std.specs.Fmt.{decimal};
 ghost use Rattle.std.specs.List.{flat_map};
-ghost use Rattle.vm_sim.specs.Lines.{block_line, command_line, count_line, fault_lines, guest_line, memory_line, memory_lines, move_line, number_line, outcome_lines, read_line, refusal_words, stall_line, state_line, state_word, statistics_lines};
+ghost use Rattle.vm_sim.specs.Lines.{block_line, command_line, count_line, fault_lines, guest_line, memory_line, memory_lines, move_line, number_line, outcome_lines, read_line, refusal_words, stall_line, state_line, statistics_lines};
 
 use crate::read_line::{push_read, put_char};
 use itoa::write_digits;
@@ -161,23 +161,12 @@ pub(crate) fn push_block(text: &mut String, name: &str) -> Result<(), AllocError
 
 // ---- the machine's state
 
-fn state_word(state: State) -> &'static str
-    ensures { result.now ≡ state_word state }
-{
-    match state {
-        State::High => "high",
-        State::Soft => "soft",
-        State::Hard => "hard",
-        State::Low => "low",
-    }
-}
-
 // The machine's state, and its free frames.
 #[tactic(auto, unfolding(crate::specs::Lines::state_line))]
 pub(crate) fn push_state(text: &mut String, state: State, free: u32) -> Result<(), AllocError>
     ensures { OnOk result (string_bytes text.new ≡ string_bytes text.old ++ state_line state free) }
 {
-    let word = state_word(state);
+    let word = state.as_str();
     writeln!(text, "state {word} free {free}")
 }
 

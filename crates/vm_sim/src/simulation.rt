@@ -6,11 +6,12 @@ ghost use Rattle.vm_host.specs.Epoch.{after_epoch};
 ghost use Rattle.vm_reclaim.specs.Policy.{policy_of};
 ghost use Rattle.vm_sim.specs.declared.run_error.RunError.TheVariants.{Memory, Read, Workers, Write};
 ghost use Rattle.vm_sim.specs.Calendar.{course_asked};
-ghost use Rattle.vm_sim.specs.Course.{after_boundary, lines_for, next_world, told_by_boundary, world_after, world_in};
-ghost use Rattle.vm_sim.specs.Headline.{AddsUp, ReadsLastWrites, RevokesFairly};
-ghost use Rattle.vm_sim.specs.Report.{boundary_told, epoch_text, report_in, report_of, told_in_epoch};
-ghost use Rattle.vm_sim.specs.Run.{CutShort, Fails, NewlyFailed, RunsConfig};
-ghost use Rattle.vm_streams.specs.Streams.{AppendsFront};
+ghost use Rattle.vm_runs.specs.Course.{host_after};
+ghost use Rattle.vm_sim.specs.Course.{after_boundary, lines_for, next_world, boundary_of_lines, world_after};
+ghost use Rattle.vm_sim.specs.Headline.{ConservesFrames, ReadsLastWrites, RevokesFairly};
+ghost use Rattle.vm_sim.specs.Report.{report_of_boundary, epoch_text, report_in, report_of, report_of_epoch};
+ghost use Rattle.vm_sim.specs.Run.{CutShort, Fails, RunsConfig};
+ghost use Rattle.vm_streams.specs.Streams.{AppendsFront, NewlyFailed};
 
 use crate::agenda::{Agenda, lines_for};
 use crate::calendar::Calendar;
@@ -25,13 +26,14 @@ use vm_config::{Config, read_config};
 use vm_host::{Boundary, Gate, Host, HostError, Lines};
 use vm_streams::{Sink, Source, write_text};
 
-const MAX_WORKERS: u32 = 64;
+/// The most workers that a run may have.
+pub const MAX_WORKERS: u32 = 64;
 
 // A boundary with these lines.
-#[tactic(auto, unfolding(crate::specs::Course::after_boundary, crate::specs::Course::told_by_boundary))]
+#[tactic(auto, unfolding(crate::specs::Course::after_boundary, crate::specs::Course::boundary_of_lines))]
 pub(crate) fn boundary(alloc: Global, host: &mut Host, lines: &Lines) -> Result<Boundary, HostError>
     ensures host { OnOk result (host.new ≡ after_boundary (policy_of host.old.machine) lines.now host.old) }
-    ensures told { IfOk result (λ told. told ≡ told_by_boundary (policy_of host.old.machine) lines.now host.old) }
+    ensures told { IfOk result (λ told. told ≡ boundary_of_lines (policy_of host.old.machine) lines.now host.old) }
     ensures ready { OnOk result (host.new.phase ≡ Ready) }
 {
     host.boundary(alloc, lines)
@@ -48,7 +50,7 @@ pub(crate) fn boundary_before(
     ensures host { OnOk result (host.new
         ≡ after_boundary (policy_of host.old.machine) (lines_for host.old.names calendar.now.agenda number) host.old) }
     ensures told { IfOk result (λ told. told
-        ≡ told_by_boundary (policy_of host.old.machine) (lines_for host.old.names calendar.now.agenda number) host.old) }
+        ≡ boundary_of_lines (policy_of host.old.machine) (lines_for host.old.names calendar.now.agenda number) host.old) }
     ensures ready { OnOk result (host.new.phase ≡ Ready) }
     ensures memory { IfErr result (λ error. error ≡ Memory) }
 {
@@ -58,7 +60,7 @@ pub(crate) fn boundary_before(
 }
 
 // The boundary before an epoch, in text.
-#[tactic(auto, unfolding(crate::specs::Report::boundary_told))]
+#[tactic(auto, unfolding(crate::specs::Report::report_of_boundary))]
 fn text_of_boundary(
     alloc: Global,
     number: u32,
@@ -70,7 +72,7 @@ fn text_of_boundary(
         ≡ after_boundary (policy_of host.old.machine) (lines_for host.old.names calendar.now.agenda number) host.old) }
     ensures ready { OnOk result (host.new.phase ≡ Ready) }
     ensures told { IfOk result (λ text. string_bytes text
-        ≡ boundary_told number (policy_of host.old.machine) (lines_for host.old.names calendar.now.agenda number) host.old) }
+        ≡ report_of_boundary number (policy_of host.old.machine) (lines_for host.old.names calendar.now.agenda number) host.old) }
     ensures memory { IfErr result (λ error. error ≡ Memory) }
 {
     let boundary = boundary_before(alloc, number, calendar, host)?;
@@ -102,9 +104,9 @@ fn tell_boundary<W: Sink>(
         ≡ after_boundary (policy_of host.old.machine) (lines_for host.old.names calendar.now.agenda number) host.old) }
     ensures ready { OnOk result (host.new.phase ≡ Ready) }
     ensures written { OnOk result (Appends (W.contents writer.old) (W.contents writer.new)
-        (boundary_told number (policy_of host.old.machine) (lines_for host.old.names calendar.now.agenda number) host.old)) }
+        (report_of_boundary number (policy_of host.old.machine) (lines_for host.old.names calendar.now.agenda number) host.old)) }
     ensures front { OnErr result (AppendsFront (W.contents writer.old) (W.contents writer.new)
-        (boundary_told number (policy_of host.old.machine) (lines_for host.old.names calendar.now.agenda number) host.old)) }
+        (report_of_boundary number (policy_of host.old.machine) (lines_for host.old.names calendar.now.agenda number) host.old)) }
     ensures stays { OnOk result (W.has_failed writer.new ≡ W.has_failed writer.old) }
     ensures cause { IfErr result (CutShort (W.has_failed writer.old) (W.has_failed writer.new)) }
 {
@@ -136,7 +138,7 @@ fn tell_epoch<RT: Threads + Sync, G: Gate + Sync, W: Sink>(
 }
 
 // A boundary with its epoch, and what is told of them.
-#[tactic(auto, unfolding(crate::specs::Report::told_in_epoch))]
+#[tactic(auto, unfolding(crate::specs::Report::report_of_epoch))]
 fn epoch<RT: Threads + Sync, G: Gate + Sync, W: Sink>(
     alloc: Global,
     crew: &Crew<'_, RT, G>,
@@ -149,9 +151,9 @@ fn epoch<RT: Threads + Sync, G: Gate + Sync, W: Sink>(
     ensures host { OnOk result (host.new
         ≡ next_world (policy_of host.old.machine) (lines_for host.old.names calendar.now.agenda number) host.old) }
     ensures written { OnOk result (Appends (W.contents writer.old) (W.contents writer.new)
-        (told_in_epoch number (policy_of host.old.machine) (lines_for host.old.names calendar.now.agenda number) host.old)) }
+        (report_of_epoch number (policy_of host.old.machine) (lines_for host.old.names calendar.now.agenda number) host.old)) }
     ensures front { OnErr result (AppendsFront (W.contents writer.old) (W.contents writer.new)
-        (told_in_epoch number (policy_of host.old.machine) (lines_for host.old.names calendar.now.agenda number) host.old)) }
+        (report_of_epoch number (policy_of host.old.machine) (lines_for host.old.names calendar.now.agenda number) host.old)) }
     ensures stays { OnOk result (W.has_failed writer.new ≡ W.has_failed writer.old) }
     ensures cause { IfErr result (CutShort (W.has_failed writer.old) (W.has_failed writer.new)) }
 {
@@ -169,7 +171,7 @@ fn tell<RT: Threads + Sync, G: Gate + Sync, W: Sink>(
     host: &mut Host,
     writer: &mut W,
 ) -> Result<(), RunError>
-    ensures host { OnOk result (host.new ≡ world_in (course_asked calendar.now host.old) calendar.now.epochs) }
+    ensures host { OnOk result (host.new ≡ host_after (course_asked calendar.now host.old) calendar.now.epochs) }
     ensures written { OnOk result (Appends (W.contents writer.old) (W.contents writer.new)
         (report_in (course_asked calendar.now host.old))) }
     ensures front { OnErr result (AppendsFront (W.contents writer.old) (W.contents writer.new)
@@ -193,7 +195,7 @@ fn run_to_end<RT: Threads + Sync, G: Gate + Sync, W: Sink>(
     host: Host,
     writer: &mut W,
 ) -> Result<Host, RunError>
-    ensures host { IfOk result (λ left. left ≡ world_in (course_asked calendar.now host) calendar.now.epochs) }
+    ensures host { IfOk result (λ left. left ≡ host_after (course_asked calendar.now host) calendar.now.epochs) }
     ensures written { OnOk result (Appends (W.contents writer.old) (W.contents writer.new)
         (report_in (course_asked calendar.now host))) }
     ensures front { OnErr result (AppendsFront (W.contents writer.old) (W.contents writer.new)
@@ -280,7 +282,7 @@ pub fn run<RT: Threads + Sync, G: Gate + Sync, R: Source, W: Sink>(
     ensures memory { IfOk result (λ host. RunsConfig (R.remaining reader.old) (R.remaining reader.new)
         (λ config. host ≡ world_after config config.epochs)) }
     ensures reads { OnOk result (RunsConfig (R.remaining reader.old) (R.remaining reader.new) ReadsLastWrites) }
-    ensures conservation { OnOk result (RunsConfig (R.remaining reader.old) (R.remaining reader.new) AddsUp) }
+    ensures conservation { OnOk result (RunsConfig (R.remaining reader.old) (R.remaining reader.new) ConservesFrames) }
     ensures revocations { OnOk result (RunsConfig (R.remaining reader.old) (R.remaining reader.new) RevokesFairly) }
     ensures failed { IfErr result (Fails (R.remaining reader.old) (R.remaining reader.new)
         (W.contents writer.old) (W.contents writer.new)

@@ -10,7 +10,7 @@ use Rattle.vm_guest.specs.Epoch.{epoch}
 use Rattle.vm_guest.specs.Good.{IsGood}
 use Rattle.vm_guest.specs.Record.{GuestRecord, reserve}
 use Rattle.vm_guest.specs.Start.{started}
-use Rattle.vm_pool.specs.Changes.{after_epoch, all_changed, changed, granted_at, released_at, started_at, stopped_at, taken_at, waits_above, with_min_at, with_min_held, with_orders, with_released, with_spares_back, with_started}
+use Rattle.vm_pool.specs.Changes.{after_epoch, all_changed, changed, granted_at, released_at, started_at, stopped_at, taken_at, blocked_above, with_min_at, with_min_held, with_orders, with_released, with_spares_back, with_started}
 use Rattle.vm_pool.specs.Guests.{Guests, each_released, total}
 use Rattle.vm_pool.specs.Pool.{PoolView, guest_at}
 use Rattle.vm_sound.specs.Books.{accounts_of, promised}
@@ -52,7 +52,7 @@ pub books-spares : (machine : MachineConfig) (p : PoolView) → accounts_of mach
 books-spares machine p = books-all machine without_spares p booked-spares
 
 pub books-orders : (machine : MachineConfig) (wait : Bool) (p : PoolView) → accounts_of machine (with_orders wait p).guests ≡ accounts_of machine p.guests
-books-orders machine wait p = books-all machine (λ g. ordered g (waits_above wait g)) p (λ g. booked-ordered (waits_above wait g) g)
+books-orders machine wait p = books-all machine (λ g. ordered g (blocked_above wait g)) p (λ g. booked-ordered (blocked_above wait g) g)
 
 pub books-epoch : (machine : MachineConfig) (p : PoolView) → accounts_of machine (after_epoch p).guests ≡ accounts_of machine p.guests
 books-epoch machine p = books-all machine epoch p booked-epoch

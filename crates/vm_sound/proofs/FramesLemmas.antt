@@ -8,7 +8,7 @@ use Rattle.vm_guest.specs.Epoch.{epoch}
 use Rattle.vm_guest.specs.Good.{IsGood}
 use Rattle.vm_guest.specs.Record.{GuestRecord}
 use Rattle.vm_guest.proofs.EpochLemmas.{epoch-held, serviced-held}
-use Rattle.vm_pool.specs.Changes.{after_epoch, all_changed, changed, frames_to_grant, frames_to_start, granted_at, lacking, released_at, started_at, stopped_at, surplus_of, taken_at, waits_above, with_min_at, with_orders, with_released, with_spares_back, with_started, AreReleasable}
+use Rattle.vm_pool.specs.Changes.{after_epoch, all_changed, changed, frames_to_grant, frames_to_start, granted_at, lacking, released_at, started_at, stopped_at, surplus_of, taken_at, blocked_above, with_min_at, with_orders, with_released, with_spares_back, with_started, AreReleasable}
 use Rattle.vm_pool.specs.CanMove.{CanGrant}
 use Rattle.vm_pool.specs.Guests.{Guests, each_released, number_of, sum_of}
 use Rattle.vm_pool.specs.Pool.{PoolView, guest_at, running_count, total_held, Conserves}
@@ -27,7 +27,7 @@ pub conserves-spares : (p : PoolView) → Conserves p → Conserves (with_spares
 conserves-spares p all = spares-all p all
 
 pub conserves-orders : (wait : Bool) (p : PoolView) → Conserves p → Conserves (with_orders wait p)
-conserves-orders wait p all = conserves-all_changed (λ g. ordered g (waits_above wait g)) p (λ g. refl) all
+conserves-orders wait p all = conserves-all_changed (λ g. ordered g (blocked_above wait g)) p (λ g. refl) all
 
 pub conserves-epoch : (p : PoolView) → Conserves p → Conserves (after_epoch p)
 conserves-epoch p all = conserves-all_changed epoch p epoch-held all

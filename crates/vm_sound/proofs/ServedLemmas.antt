@@ -5,7 +5,7 @@ use Rattle.vm_guest.specs.Boundary.{ordered, released, revoked, serviced, with_c
 use Rattle.vm_guest.specs.Good.{HasNothingPosted}
 use Rattle.vm_guest.specs.Record.{GuestRecord}
 use Rattle.vm_guest.proofs.EpochLemmas.{ordered-nothing_posted, released-nothing_posted}
-use Rattle.vm_pool.specs.Changes.{all_changed, changed, granted_at, released_at, started_at, stopped_at, taken_at, waits_above, with_min_at, with_orders, with_released, with_spares_back}
+use Rattle.vm_pool.specs.Changes.{all_changed, changed, granted_at, released_at, started_at, stopped_at, taken_at, blocked_above, with_min_at, with_orders, with_released, with_spares_back}
 use Rattle.vm_pool.specs.Guests.{Guests, each_released}
 use Rattle.vm_pool.specs.Pool.{PoolView, EachGuest}
 use Rattle.vm_pool.proofs.EachLemmas.{each-all, served-grant, served-release, served-revoke, served-serve_all, served-set_cap, served-set_min, served-set_shares, served-spares_back_all, served-start, served-stop}
@@ -22,7 +22,7 @@ served-spares p served = served-spares_back_all p served
 
 pub served-orders : (wait : Bool) (p : PoolView) → EachGuest HasNothingPosted p → EachGuest HasNothingPosted (with_orders wait p)
 served-orders wait p served =
-    each-all HasNothingPosted (λ g. ordered g (waits_above wait g)) p (λ g nothing. ordered-nothing_posted g (waits_above wait g) nothing) served
+    each-all HasNothingPosted (λ g. ordered g (blocked_above wait g)) p (λ g nothing. ordered-nothing_posted g (blocked_above wait g) nothing) served
 
 served-each_released : (counts : List ℕ) (guests : Guests) → All (λ o. IfSome o HasNothingPosted) guests → All (λ o. IfSome o HasNothingPosted) (each_released counts guests)
 served-each_released [] guests served = served

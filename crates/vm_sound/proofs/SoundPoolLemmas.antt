@@ -11,7 +11,7 @@ use Rattle.vm_guest.specs.Good.{HasNothingPosted, IsGood}
 use Rattle.vm_guest.specs.Record.{GuestRecord}
 use Rattle.vm_guest.specs.Start.{started}
 use Rattle.vm_guest.proofs.GoodLemmas.{started-good}
-use Rattle.vm_pool.specs.Changes.{after_epoch, all_changed, changed, granted_at, released_at, started_at, stopped_at, taken_at, waits_above, with_min_at, with_min_held, with_orders, with_released, with_spares_back, with_started, AreReleasable}
+use Rattle.vm_pool.specs.Changes.{after_epoch, all_changed, changed, granted_at, released_at, started_at, stopped_at, taken_at, blocked_above, with_min_at, with_min_held, with_orders, with_released, with_spares_back, with_started, AreReleasable}
 use Rattle.vm_pool.specs.CanMove.{CanGrant, CanRevoke}
 use Rattle.vm_pool.specs.Guests.{Guests, guest_in, EachRunning}
 use Rattle.vm_pool.specs.Pool.{PoolView, guest_at, EachGuest}
@@ -61,7 +61,7 @@ sound-spares p sound = sound-all without_spares p (with_spares_back p).free (eac
 
 pub sound-orders : (wait : Bool) (p : PoolView) → IsSoundPool p → IsSoundPool (with_orders wait p)
 sound-orders wait p sound =
-    sound-all (λ g. ordered g (waits_above wait g)) p p.free (each-step StaysGood (λ g. ordered g (waits_above wait g)) p.guests (λ g. good-ordered (waits_above wait g) g)) sound
+    sound-all (λ g. ordered g (blocked_above wait g)) p p.free (each-step StaysGood (λ g. ordered g (blocked_above wait g)) p.guests (λ g. good-ordered (blocked_above wait g) g)) sound
 
 pub sound-epoch : (p : PoolView) → EachGuest HasNothingPosted p → IsSoundPool p → IsSoundPool (after_epoch p)
 sound-epoch p served sound =

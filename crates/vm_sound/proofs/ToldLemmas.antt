@@ -14,7 +14,7 @@ use Rattle.vm_guest.specs.Start.{started}
 use Rattle.vm_guest.proofs.LastWriteLemmas.{last_write-append}
 use Rattle.vm_guest.proofs.ReadLemmas.{epoch-as_written}
 use Rattle.vm_guest.proofs.WrittenLemmas.{HasSameBytes, HasSameBytes-granted, HasSameBytes-released, same-written, serviced-written, started-written}
-use Rattle.vm_pool.specs.Changes.{after_epoch, all_changed, changed, granted_at, released_at, started_at, stopped_at, taken_at, waits_above, with_min_at, with_min_held, with_orders, with_released, with_spares_back, with_started}
+use Rattle.vm_pool.specs.Changes.{after_epoch, all_changed, changed, granted_at, released_at, started_at, stopped_at, taken_at, blocked_above, with_min_at, with_min_held, with_orders, with_released, with_spares_back, with_started}
 use Rattle.vm_pool.specs.Guests.{Guests, each_changed, each_released, guest_in, EachRunning}
 use Rattle.vm_pool.specs.Pool.{PoolView, guest_at, EachGuest}
 use Rattle.vm_sound.specs.Written.{History, happenings_at, with_happenings, AreAll, IfRuns, IsKnown, IsOrdered}
@@ -96,7 +96,7 @@ pub told-spares : (p : PoolView) (h : History) → AreAll IsWrittenBy p.guests h
 told-spares p h all = told-all without_spares p h one-spares all
 
 pub told-orders : (wait : Bool) (p : PoolView) (h : History) → AreAll IsWrittenBy p.guests h → AreAll IsWrittenBy (with_orders wait p).guests h
-told-orders wait p h all = told-all (λ g. ordered g (waits_above wait g)) p h (λ g. one-ordered (waits_above wait g) g) all
+told-orders wait p h all = told-all (λ g. ordered g (blocked_above wait g)) p h (λ g. one-ordered (blocked_above wait g) g) all
 
 become-each_released : (counts : List ℕ) (guests : Guests) → EachBecomes StaysWritten guests (each_released counts guests)
 become-each_released [] guests = become-none StaysWritten written-none guests
@@ -251,7 +251,7 @@ ordered-of (Some g ∷ guests) (before ∷ h) good served none all = (
 )
 
 pub no_reads-orders : (wait : Bool) (p : PoolView) → EachGuest (λ g. g.reads ≡ []) (with_orders wait p)
-no_reads-orders wait p = each-made (λ g. g.reads ≡ []) (λ g. ordered g (waits_above wait g)) p (λ g. refl)
+no_reads-orders wait p = each-made (λ g. g.reads ≡ []) (λ g. ordered g (blocked_above wait g)) p (λ g. refl)
 
 -- ---- an epoch
 

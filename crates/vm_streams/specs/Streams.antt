@@ -1,5 +1,5 @@
--- When a write is refused, and what was written by then.
-use Rattle.std.specs.Prelude.{ℕ, ◌==◌, ◌&&◌, List, length, take, Bool, true, not, Option, Result, Ok, Err}
+-- When a write is refused, what was written by then, and when a reader or a writer fails.
+use Rattle.std.specs.Prelude.{◌≡◌, ℕ, ◌==◌, ◌&&◌, List, length, take, Bool, false, true, not, Option, Result, Ok, Err}
 use Rattle.std.specs.Io.KnownBytes.{Appends}
 
 -- whether a write of these bytes was refused: by an error, or by taking nothing where there was something
@@ -10,3 +10,7 @@ refuses (Err e) bytes = true
 -- a front of the text was appended, and nothing else
 abbrev pub AppendsFront : Option (List ℕ) → Option (List ℕ) → List ℕ → Type 0
 AppendsFront old new text = (count : ℕ) × Appends old new (take count text)
+
+-- a reader or a writer that had not failed before has failed since
+abbrev pub NewlyFailed : Bool → Bool → Type 0
+NewlyFailed old new = (old ≡ false) × (new ≡ true)

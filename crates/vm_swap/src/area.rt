@@ -5,10 +5,10 @@ ghost use Rattle.vm_patches.specs.Patches.{patched};
 ghost use Rattle.vm_swap.specs.Area.{zero_bytes};
 ghost use Rattle.vm_swap.specs.Merged.{merged};
 
-use crate::table::{PAGE_BYTES, PAGE_LIMIT, Table, roomy, trade_bytes};
+use crate::table::{PAGE_LIMIT, Table, roomy, trade_bytes};
 use std::alloc::{AllocError, Global};
 use std::marker::Model;
-use vm_frames::Frame;
+use vm_frames::{Frame, PAGE_BYTES};
 use vm_patches::{Log, PatchedFrame};
 
 const ZEROS: [u8; PAGE_BYTES] = [0; PAGE_BYTES];

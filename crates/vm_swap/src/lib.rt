@@ -9,4 +9,5 @@ mod area;
 mod table;
 
 pub use area::SwapArea;
-pub use table::{PAGE_BYTES, PAGE_LIMIT};
+pub use table::PAGE_LIMIT;
+pub use vm_frames::PAGE_BYTES;

@@ -5,10 +5,8 @@ ghost use Rattle.std.specs.FinMap as map;
 use std::alloc::{AllocError, Global};
 use std::marker::Model;
 use std::mem;
+use vm_frames::PAGE_BYTES;
 use vm_patches::PatchedFrame;
-
-/// The bytes of a page of guest memory.
-pub const PAGE_BYTES: usize = 4096;
 
 /// The pages of a guest are numbered below this, so an area never holds more of them.
 pub const PAGE_LIMIT: u32 = 262144;

@@ -3,7 +3,8 @@ ghost use Rattle.std.specs.Prelude.{◌≡◌, ◌<◌, ◌≤◌, ◌++◌, Err
 ghost use Rattle.std.specs.Io.KnownBytes.{Appends};
 ghost use Rattle.std.specs.Vec.Iter.{into_iter_items, into_iter_len};
 ghost use Rattle.vm_sim.specs.declared.run_error.RunError.TheVariants.{Write};
-ghost use Rattle.vm_sim.specs.Run.{MeansConfig, NewlyFailed};
+ghost use Rattle.vm_sim.specs.Run.{MeansConfig};
+ghost use Rattle.vm_streams.specs.Streams.{NewlyFailed};
 ghost use Rattle.vm_sweep.specs.Drawn.{FailsOnDrawing, drawing_of, swept_of};
 ghost use Rattle.vm_sweep.specs.Rounds.{IsUnderWay};
 

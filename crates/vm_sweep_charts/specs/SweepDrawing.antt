@@ -1,8 +1,8 @@
 -- The drawing of a sweep: what a host pages and whom it lets wait, each over the frames of its machine.
 use Rattle.std.specs.Prelude.{ℕ, ◌-◌, List, [], ◌∷◌, ◌++◌, codes, false, true, length, map, slice_get}
-use Rattle.std.specs.Fmt.{decimal}
 use Rattle.std.specs.List.{enumerate_from}
 use Rattle.vm_drawing.specs.declared.scale.Axis.{Axis}
+use Rattle.vm_drawing.specs.Counts.{counted}
 use Rattle.vm_drawing.specs.Drawing.{Chart, Curve, Drawing, straight_curve}
 use Rattle.vm_sweep_charts.specs.declared.runs.Measure.{Measure}
 use Rattle.vm_sweep_charts.specs.declared.runs.Measure.TheVariants.{Moved, Waited}
@@ -37,8 +37,8 @@ sweep_charts runs curves =
 
 unfoldable pub note_of : (machines combined : ℕ) → List ℕ
 note_of machines combined =
-    decimal machines ++ (codes " machines, " ++ (decimal combined
-    ++ codes " combinations of swap, tax and page rate; sums over all epochs; a frame and a page have 4096 bytes"))
+    counted machines (codes "machine") ++ (codes ", " ++ (counted combined (codes "combination")
+    ++ codes " of swap, tax and page rate; sums over all epochs; a frame and a page have 4096 bytes"))
 
 -- from the first machine to the last
 abbrev pub frame_axis : List SweptRun → Axis

@@ -7,7 +7,7 @@ ghost use Rattle.vm_sweep_charts.specs.SweptRuns.{frames_of};
 use crate::names::curve_name;
 use crate::runs::{Measure, SweptRun, combinations, machine_count, places_of, values_of};
 use std::alloc::{AllocError, Global};
-use vm_drawing::{Axis, Chart, Curve, Drawing, draw};
+use vm_drawing::{Axis, Chart, Curve, Drawing, counted, draw};
 
 // The curve of a combination: of the one with this number, whose run on the first machine is this one.
 fn swept_curve(
@@ -73,8 +73,10 @@ fn sweep_charts(alloc: Global, runs: &[SweptRun], curves: usize) -> Result<Vec<C
 fn note_of(alloc: Global, machines: usize, combinations: usize) -> Result<String, AllocError>
     ensures { IfOk result (λ note. string_bytes note ≡ note_of machines combinations) }
 {
+    let machines = counted(alloc, machines, "machine")?;
+    let combinations = counted(alloc, combinations, "combination")?;
     format!(in alloc;
-        "{machines} machines, {combinations} combinations of swap, tax and page rate; sums over all epochs; a frame and a page have 4096 bytes"
+        "{machines}, {combinations} of swap, tax and page rate; sums over all epochs; a frame and a page have 4096 bytes"
     )
 }
 

@@ -4,7 +4,7 @@ ghost use Rattle.std.specs.Io.KnownBytes.{Keeps};
 ghost use Rattle.std.specs.Process.{exit_status};
 ghost use Rattle.clap.specs.Words.{Text};
 ghost use Rattle.vm_command_line.specs.Statuses.{IsRefused};
-ghost use Rattle.vm_sim.specs.Run.{NewlyFailed};
+ghost use Rattle.vm_streams.specs.Streams.{NewlyFailed};
 ghost use Rattle.vm_sweep_program.specs.Asking.{value_lists};
 ghost use Rattle.vm_sweep_program.specs.Written.{StopsEarly, StopsEarlyOn, WritesSweep, WritesSweepOf};
 ghost use Rattle.vm_sweep_words.specs.Lists.{AreWithin, lists_in};

@@ -2,7 +2,8 @@
 ghost use Rattle.std.specs.Prelude.{◌≡◌, ◌≤◌, Err, IfErr, OnOk};
 ghost use Rattle.std.specs.Io.KnownBytes.{Appends};
 ghost use Rattle.vm_sim.specs.declared.run_error.RunError.TheVariants.{Write};
-ghost use Rattle.vm_sim.specs.Run.{MeansConfig, NewlyFailed};
+ghost use Rattle.vm_sim.specs.Run.{MeansConfig};
+ghost use Rattle.vm_streams.specs.Streams.{NewlyFailed};
 ghost use Rattle.vm_sweep_program.specs.Asking.{value_lists};
 ghost use Rattle.vm_sweep_program.specs.Written.{FailsOnSweep, sweep_of};
 ghost use Rattle.vm_sweep_words.specs.Lists.{AreWithin, lists_in};

@@ -8,7 +8,8 @@ use Rattle.vm_guest.specs.Record.{saturated}
 use Rattle.vm_host.specs.declared.boundary.Boundary.{Boundary}
 use Rattle.vm_host.specs.World.{World}
 use Rattle.vm_pool.specs.Guests.{number_of}
-use Rattle.vm_sim.specs.Course.{Course, boundary_at, course_of, ready_world, world_after, world_in}
+use Rattle.vm_runs.specs.Course.{Run, host_after}
+use Rattle.vm_sim.specs.Course.{boundary_at, course_of, ready_world, world_after}
 use Rattle.vm_tally.specs.declared.guest_summary.GuestSummary.{GuestSummary}
 use Rattle.vm_tally.specs.Counting.{sum_over}
 use Rattle.vm_tally.specs.Counts.{executed_by, swapped_of}
@@ -29,7 +30,7 @@ counts-next number guests k =
     ∙ (λ i. map (λ p. with_more-saturated (sum_over (number p) k) (number p k) i) (range_with_len 0 guests))
 
 -- what was seen of a guest, with epoch k
-sighting-next : (course : Course) (p k : ℕ)
+sighting-next : (course : Run) (p k : ℕ)
     → seen_after (guest_after course p k) (seen_ready (guest_ready course p k) (sighting_after course p k)) ≡ sighting_after course p (suc k)
 unfolding after_in
 sighting-next course p k = λ i. record {
@@ -42,7 +43,7 @@ sighting-next course p k = λ i. record {
       (number_of swapped_of (guest_after course p k)) i;
 }
 
-sightings-next : (course : Course) (guests k : ℕ)
+sightings-next : (course : Run) (guests k : ℕ)
     → all_seen_after (after_in course k) (all_seen_ready (ready_in course k) (map (λ p. sighting_after course p k) (range_with_len 0 guests)))
     ≡ map (λ p. sighting_after course p (suc k)) (range_with_len 0 guests)
 sightings-next course guests k =
@@ -50,7 +51,7 @@ sightings-next course guests k =
     ∙ each_at-map (λ p s. seen_after (guest_after course p k) (seen_ready (guest_ready course p k) s)) (λ p. sighting_after course p k) 0 guests
     ∙ (λ i. map (λ p. sighting-next course p k i) (range_with_len 0 guests))
 
-tally-next : (course : Course) (guests k : ℕ)
+tally-next : (course : Run) (guests k : ℕ)
     → with_epoch (after_in course k) (with_boundary (told_in course k) (ready_in course k) (tally_after course guests k)) ≡ tally_after course guests (suc k)
 unfolding tally_after
 tally-next course guests k = λ i. record {
@@ -111,12 +112,12 @@ counted-guests c = length-names c.domains
 count-at : (number : ℕ → ℕ → ℕ) (guests n p : ℕ) → p < guests → slice_index (counts_over number guests n) p ≡ saturated (sum_over (number p) n)
 count-at number guests n p within = get_or-map-range_with_len (λ q. saturated (sum_over (number q) n)) 0 guests p p 0 within (omega arith)
 
-sighting-at : (course : Course) (guests n p : ℕ) → p < guests
+sighting-at : (course : Run) (guests n p : ℕ) → p < guests
     → slice_index_or (map (λ q. sighting_after course q n) (range_with_len 0 guests)) p unseen ≡ sighting_after course p n
 sighting-at course guests n p within = get_or-map-range_with_len (λ q. sighting_after course q n) 0 guests p p unseen within (omega arith)
 
-summary-at : (course : Course) (guests n p : ℕ) → p < guests
-    → summary_at (tally_after course guests n) (world_in course n) p ≡ guest_summary_after course p n
+summary-at : (course : Run) (guests n p : ℕ) → p < guests
+    → summary_at (tally_after course guests n) (host_after course n) p ≡ guest_summary_after course p n
 unfolding tally_after guest_summary_after
 summary-at course guests n p within =
     let seen = sighting-at course guests n p within in
@@ -133,15 +134,15 @@ summary-at course guests n p within =
       at_end = (guest_summary_after course p n).at_end;
     }
 
-seen-length : (course : Course) (guests n : ℕ) → length (tally_after course guests n).seen ≡ guests
+seen-length : (course : Run) (guests n : ℕ) → length (tally_after course guests n).seen ≡ guests
 unfolding tally_after
 seen-length course guests n = length-map-range_with_len (λ p. sighting_after course p n) 0 guests
 
-all-summaries : (course : Course) (guests n : ℕ)
-    → map (summary_at (tally_after course guests n) (world_in course n)) (range_with_len 0 guests)
+all-summaries : (course : Run) (guests n : ℕ)
+    → map (summary_at (tally_after course guests n) (host_after course n)) (range_with_len 0 guests)
     ≡ map (λ p. guest_summary_after course p n) (range_with_len 0 guests)
 all-summaries course guests n =
-    let one = summary_at (tally_after course guests n) (world_in course n) in
+    let one = summary_at (tally_after course guests n) (host_after course n) in
     fill_by_all (λ p. guest_summary_after course p n) (map one (range_with_len 0 guests)) guests (one 0)
     (length-map-range_with_len one 0 guests)
     (λ p within. get_or-map-range_with_len one 0 guests p p (one 0) within (omega arith) ∙ summary-at course guests n p within)

@@ -4,7 +4,8 @@ use Rattle.vm_config.specs.declared.config.Config.{Config}
 use Rattle.vm_guest.specs.Record.{saturated}
 use Rattle.vm_host.specs.declared.boundary.Boundary.{Boundary}
 use Rattle.vm_host.specs.World.{World}
-use Rattle.vm_sim.specs.Course.{Course, after_boundary, boundary_at, course_of, ready_world, world_after}
+use Rattle.vm_runs.specs.Course.{Run}
+use Rattle.vm_sim.specs.Course.{after_boundary, boundary_at, course_of, ready_world, world_after}
 use Rattle.vm_tally.specs.declared.summary.Summary.{Summary}
 use Rattle.vm_tally.specs.Counting.{sum_over}
 use Rattle.vm_tally.specs.Counts.{executed_by, over_guests, swapped_of}
@@ -21,7 +22,7 @@ greatest_more a b c = omega arith
 pub sum_next : (number : ℕ → ℕ) (k : ℕ) → saturated (saturated (sum_over number k) + number k) ≡ saturated (sum_over number (suc k))
 sum_next number k = saturated_more (sum_over number k) (number k)
 
-pub summary_next : (course : Course) (k : ℕ)
+pub summary_next : (course : Run) (k : ℕ)
     → with_epoch (over_guests executed_by (ready_in course k)) (after_in course k)
     (with_boundary (told_in course k) (ready_in course k) (summary_after course k))
     ≡ summary_after course (suc k)

@@ -6,7 +6,8 @@ use Rattle.vm_config.specs.declared.config.Config.{Config}
 use Rattle.vm_guest.specs.Record.{GuestRecord, ballooned, saturated, steps_left}
 use Rattle.vm_host.specs.World.{World, guest_at}
 use Rattle.vm_pool.specs.Guests.{number_of}
-use Rattle.vm_sim.specs.Course.{Course, course_of, world_in}
+use Rattle.vm_runs.specs.Course.{Run, host_after}
+use Rattle.vm_sim.specs.Course.{course_of}
 use Rattle.vm_tally.specs.declared.guest_summary.AtEnd.{AtEnd}
 use Rattle.vm_tally.specs.declared.guest_summary.GuestSummary.{GuestSummary}
 use Rattle.vm_tally.specs.Counting.{greatest_over, one_if, sum_over}
@@ -16,7 +17,7 @@ use Rattle.vm_tally.specs.Summary.{after_in, ready_in, told_in}
 
 -- ---- the guest at a position, in epoch k of a course
 
-module _ (course : Course) (position : ℕ) where
+module _ (course : Run) (position : ℕ) where
   -- the guest that the boundary leaves there, and the one after the epoch, if one runs
   abbrev pub guest_ready : ℕ → Option GuestRecord
   guest_ready k = guest_at (ready_in course k) position
@@ -78,7 +79,7 @@ at_end_in w position = option_map at_end_of (guest_at w position)
 
 -- what is told of the guest at a position, of so many epochs of a course and of the host that they leave; a sum stops at the greatest
 -- number of 64 bits
-unfoldable pub guest_summary_after : Course → (position : ℕ) → (n : ℕ) → GuestSummary
+unfoldable pub guest_summary_after : Run → (position : ℕ) → (n : ℕ) → GuestSummary
 guest_summary_after course position n = record {
   epochs = saturated (sum_over (runs_in course position) n);
   revoked = saturated (sum_over (revoked_in course position) n);
@@ -89,7 +90,7 @@ guest_summary_after course position n = record {
   stalls = saturated (sum_over (stalls_in course position) n);
   done = saturated (sum_over (done_in course position) n);
   most_swapped = greatest_over (most_swapped_in course position) n;
-  at_end = at_end_in (world_in course n) position;
+  at_end = at_end_in (host_after course n) position;
 }
 
 -- what is told of each guest of the run of a configuration, in the order of the configuration

@@ -6,7 +6,7 @@ use Rattle.vm_host.specs.declared.boundary.Boundary.{Boundary}
 use Rattle.vm_host.specs.World.{World, guest_at}
 use Rattle.vm_plan.specs.declared.stretch.Stretch.{Stretch}
 use Rattle.vm_pool.specs.Guests.{number_of}
-use Rattle.vm_sim.specs.Course.{Course, world_in}
+use Rattle.vm_runs.specs.Course.{Run, host_after}
 use Rattle.vm_tally.specs.declared.guest_summary.GuestSummary.{GuestSummary}
 use Rattle.vm_tally.specs.declared.guest_sightings.Sighting.{Sighting}
 use Rattle.vm_tally.specs.Counting.{greatest_over, one_if, sum_over}
@@ -105,13 +105,13 @@ with_epoch w t = record t { seen = all_seen_after w t.seen }
 -- ---- of so many epochs of a course
 
 -- what was seen of the guest at a position
-abbrev pub sighting_after : Course → (position : ℕ) → (n : ℕ) → Sighting
+abbrev pub sighting_after : Run → (position : ℕ) → (n : ℕ) → Sighting
 sighting_after course position n = record {
   epochs = saturated (sum_over (runs_in course position) n);
   evicted = saturated (sum_over (evicted_in course position) n);
   stalls = saturated (sum_over (stalls_in course position) n);
   done = saturated (sum_over (done_in course position) n);
-  executed = number_of executed_by (guest_at (world_in course n) position);
+  executed = number_of executed_by (guest_at (host_after course n) position);
   most_swapped = greatest_over (most_swapped_in course position) n;
 }
 
@@ -119,7 +119,7 @@ sighting_after course position n = record {
 abbrev pub counts_over : (ℕ → ℕ → ℕ) → (guests n : ℕ) → List ℕ
 counts_over number guests n = map (λ position. saturated (sum_over (number position) n)) (range_with_len 0 guests)
 
-unfoldable pub tally_after : Course → (guests n : ℕ) → Tally
+unfoldable pub tally_after : Run → (guests n : ℕ) → Tally
 tally_after course guests n = record {
   revoked = counts_over (revoked_in course) guests n;
   paged = counts_over (paged_in course) guests n;

@@ -5,29 +5,30 @@ use Rattle.vm_config.specs.declared.config.Config.{Config}
 use Rattle.vm_guest.specs.Record.{ballooned, saturated, steps_left}
 use Rattle.vm_host.specs.declared.boundary.Boundary.{Boundary}
 use Rattle.vm_host.specs.World.{World}
-use Rattle.vm_sim.specs.Course.{Course, after_boundary, course_of, told_by_boundary, world_in}
+use Rattle.vm_runs.specs.Course.{Run, host_after}
+use Rattle.vm_sim.specs.Course.{after_boundary, course_of, boundary_of_lines}
 use Rattle.vm_tally.specs.declared.summary.Summary.{Summary}
 use Rattle.vm_tally.specs.Counting.{greatest_over, least_over, one_if, sum_over}
 use Rattle.vm_tally.specs.Counts.{evicted_from, executed_by, has_stalled, is_for_frames, is_for_swap, is_hard, is_high, is_low, is_soft, over_guests, paged, refused, revoked, swapped_of}
 
 -- ---- epoch k of a course
 
-module _ (course : Course) (k : ℕ) where
+module _ (course : Run) (k : ℕ) where
   -- what the boundary before it tells
   unfoldable pub told_in : Boundary
-  told_in = told_by_boundary course.policy (course.lines k) (world_in course k)
+  told_in = boundary_of_lines course.policy (course.lines k) (host_after course k)
 
   -- the host that the boundary leaves
   unfoldable pub ready_in : World
-  ready_in = after_boundary course.policy (course.lines k) (world_in course k)
+  ready_in = after_boundary course.policy (course.lines k) (host_after course k)
 
   -- the host after it
   unfoldable pub after_in : World
-  after_in = world_in course (suc k)
+  after_in = host_after course (suc k)
 
 -- ---- its numbers
 
-module _ (course : Course) where
+module _ (course : Run) where
   -- 1 where its boundary found this state
   abbrev pub high_in : ℕ → ℕ
   high_in k = one_if (is_high (told_in course k).state)
@@ -87,7 +88,7 @@ module _ (course : Course) where
 -- ---- the run
 
 -- what is told of so many epochs of a course, and of the host that they leave; a sum stops at the greatest number of 64 bits
-unfoldable pub summary_after : Course → ℕ → Summary
+unfoldable pub summary_after : Run → ℕ → Summary
 summary_after course n = record {
   high = saturated (sum_over (high_in course) n);
   soft = saturated (sum_over (soft_in course) n);
@@ -103,10 +104,10 @@ summary_after course n = record {
   blocked = saturated (sum_over (blocked_in course) n);
   stalls = saturated (sum_over (stalls_in course) n);
   done = saturated (sum_over (done_in course) n);
-  left = saturated (over_guests steps_left (world_in course n));
+  left = saturated (over_guests steps_left (host_after course n));
   most_swapped = greatest_over (most_swapped_in course) n;
-  swapped = over_guests swapped_of (world_in course n);
-  balloon = over_guests ballooned (world_in course n);
+  swapped = over_guests swapped_of (host_after course n);
+  balloon = over_guests ballooned (host_after course n);
 }
 
 -- what is told of the run of a configuration

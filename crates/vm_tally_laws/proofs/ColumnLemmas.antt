@@ -11,7 +11,8 @@ use Rattle.vm_plan.specs.declared.state.State.{State}
 use Rattle.vm_plan.specs.Stretches.{stretches_of}
 use Rattle.vm_pool.specs.Guests.{number_of}
 use Rattle.vm_pool.specs.Readers.{stalled_of}
-use Rattle.vm_sim.specs.Course.{Course, course_of, world_in}
+use Rattle.vm_runs.specs.Course.{Run, host_after}
+use Rattle.vm_sim.specs.Course.{course_of}
 use Rattle.vm_sim.specs.Report.{name_at}
 use Rattle.vm_tally.specs.Counting.{one_if, sum_each, sum_over}
 use Rattle.vm_tally.specs.Counts.{has_stalled, is_for_frames, is_for_swap, is_hard, is_high, is_low, is_refused, is_soft, over_guests, paged, refused, revoked, swapped_of}
@@ -113,15 +114,15 @@ balloon-end w =
 -- ---- the run
 
 -- a number that boundaries count, and nothing else
-of-boundaries : (f : ReportLine → ℕ) (number : ℕ → ℕ) (course : Course)
+of-boundaries : (f : ReportLine → ℕ) (number : ℕ → ℕ) (course : Run)
     → ((k : ℕ) → sum_each f (lines_of_boundary (ready_in course k) k (told_in course k)) ≡ number k)
     → ((w : World) → sum_each f (lines_of_epoch w) ≡ 0) → ((w : World) → sum_each f (lines_at_end w) ≡ 0)
     → sum_over number course.epochs ≡ sum_each f (lines_in course)
 of-boundaries f number course boundary epoch end =
     let all = of-lines f course number (λ k. omega (arith, boundary k, epoch (after_in course k))) in
-    omega (arith, all, end (world_in course course.epochs))
+    omega (arith, all, end (host_after course course.epochs))
 
-module _ (course : Course) where
+module _ (course : Run) where
   -- what is added up of lines of boundaries
   told-column : (f : ReportLine → ℕ) (number : ℕ → ℕ)
       → ((k : ℕ) → sum_each f (lines_of_boundary (ready_in course k) k (told_in course k)) ≡ number k)
@@ -135,10 +136,10 @@ module _ (course : Course) where
   stalls-column =
       let all = of-lines stalling course (stalls_in course)
       (λ k. omega (arith, stalling-boundary (ready_in course k) k (told_in course k), stalling-epoch (after_in course k))) in
-      let none = end-zero stalling (world_in course course.epochs) refl (λ name view. refl) refl in
+      let none = end-zero stalling (host_after course course.epochs) refl (λ name view. refl) refl in
       ap saturated (omega (arith, all, none))
 
-  swapped-column : over_guests swapped_of (world_in course course.epochs) ≡ sum_each swapped_at_end (lines_in course)
+  swapped-column : over_guests swapped_of (host_after course course.epochs) ≡ sum_each swapped_at_end (lines_in course)
   swapped-column =
       let all = of-lines swapped_at_end course (λ _. 0)
       (λ k. omega (
@@ -146,9 +147,9 @@ module _ (course : Course) where
         swapped-boundary (ready_in course k) k (told_in course k),
         epoch-zero swapped_at_end (after_in course k) (λ name read. refl) (λ name page. refl),
       )) in
-      omega (arith, all, over-none course.epochs, swapped-end (world_in course course.epochs))
+      omega (arith, all, over-none course.epochs, swapped-end (host_after course course.epochs))
 
-  balloon-column : over_guests ballooned (world_in course course.epochs) ≡ sum_each balloon_at_end (lines_in course)
+  balloon-column : over_guests ballooned (host_after course course.epochs) ≡ sum_each balloon_at_end (lines_in course)
   balloon-column =
       let all = of-lines balloon_at_end course (λ _. 0)
       (λ k. omega (
@@ -156,7 +157,7 @@ module _ (course : Course) where
         balloon-boundary (ready_in course k) k (told_in course k),
         epoch-zero balloon_at_end (after_in course k) (λ name read. refl) (λ name page. refl),
       )) in
-      omega (arith, all, over-none course.epochs, balloon-end (world_in course course.epochs))
+      omega (arith, all, over-none course.epochs, balloon-end (host_after course course.epochs))
 
 pub adds-up-lines : (c : Config) → AddsUpLines c
 unfolding summary_after

@@ -10,7 +10,7 @@ use Rattle.vm_host.specs.Answers.{AnswerValue}
 use Rattle.vm_host.specs.World.{World, guest_at}
 use Rattle.vm_plan.specs.Stretches.{stretches_of}
 use Rattle.vm_pool.specs.Readers.{stalled_of}
-use Rattle.vm_sim.specs.Course.{Course, world_in}
+use Rattle.vm_runs.specs.Course.{Run, host_after}
 use Rattle.vm_sim.specs.Report.{name_at, positions}
 use Rattle.vm_tally.specs.Counting.{sum_each, sum_over}
 use Rattle.vm_tally.specs.Summary.{after_in, ready_in, told_in}
@@ -109,19 +109,19 @@ module _ (f : ReportLine → ℕ) where
 
   -- ---- the run
 
-  abbrev epoch_sum : Course → ℕ → ℕ
+  abbrev epoch_sum : Run → ℕ → ℕ
   epoch_sum course k = sum_each f (lines_of_boundary (ready_in course k) k (told_in course k)) + sum_each f (lines_of_epoch (after_in course k))
 
-  of-before : (course : Course) (n : ℕ) → sum_each f (lines_before course n) ≡ sum_over (epoch_sum course) n
+  of-before : (course : Run) (n : ℕ) → sum_each f (lines_before course n) ≡ sum_over (epoch_sum course) n
   of-before course zero = refl
   of-before course (suc k) =
       let boundary = lines_of_boundary (ready_in course k) k (told_in course k) in
       omega (arith, sum-append f (lines_before course k) (lines_at course k), of-before course k, sum-append f boundary (lines_of_epoch (after_in course k)))
 
   -- all lines, of whose epochs each counts such a number
-  pub of-lines : (course : Course) (number : ℕ → ℕ)
+  pub of-lines : (course : Run) (number : ℕ → ℕ)
       → ((k : ℕ) → sum_each f (lines_of_boundary (ready_in course k) k (told_in course k)) + sum_each f (lines_of_epoch (after_in course k)) ≡ number k)
-      → sum_each f (lines_in course) ≡ sum_over number course.epochs + sum_each f (lines_at_end (world_in course course.epochs))
+      → sum_each f (lines_in course) ≡ sum_over number course.epochs + sum_each f (lines_at_end (host_after course course.epochs))
   of-lines course number each =
       let all = of-before course course.epochs ∙ over-same (epoch_sum course) number course.epochs each in
-      omega (arith, all, sum-append f (lines_before course course.epochs) (lines_at_end (world_in course course.epochs)))
+      omega (arith, all, sum-append f (lines_before course course.epochs) (lines_at_end (host_after course course.epochs)))

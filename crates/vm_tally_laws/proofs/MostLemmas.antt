@@ -1,17 +1,20 @@
 -- The most pages in swap of a run, and of each guest.
-use Rattle.std.proofs.Common.{◌≡◌, ℕ, zero, suc, ◌<◌, ◌≤◌, [], ◌∷◌, Option, Some, None, IfSome, length, refl, ap, ◌∙◌, subst, inl, inr, slice_get, arith}
+use Rattle.std.proofs.Common.{◌≡◌, ℕ, zero, suc, ◌<◌, ◌≤◌, [], ◌∷◌, Option, Some, None, IfSome, length, refl, sym, ap, ◌∙◌, subst, inl, inr, slice_get, arith}
 use Rattle.std.proofs.lemmas.Bool.{cases_eq}
 use Rattle.std.proofs.lemmas.Option.{slice_get-map}
 use Rattle.std.specs.Option.{option_map}
 use Rattle.vm_config.specs.declared.config.Config.{Config}
 use Rattle.vm_config.specs.Limits.{IsConfig}
-use Rattle.vm_guest.specs.Epoch.{epoch, pieces}
+use Rattle.vm_guest.specs.Epoch.{epoch}
 use Rattle.vm_guest.specs.Good.{HasNothingPosted, IsGood}
+use Rattle.vm_guest.specs.Pieces.{pieces}
 use Rattle.vm_guest.specs.Record.{GuestRecord}
+use Rattle.vm_guest.proofs.PieceLemmas.{pieces-epoch}
 use Rattle.vm_host.specs.World.{guest_at}
 use Rattle.vm_pool.specs.Guests.{Guests, each_changed, guest_in, number_of, running}
 use Rattle.vm_runs.specs.Served.{IsServed, LawOfCourse}
-use Rattle.vm_sim.specs.Course.{Course, after_boundary, course_of, lines_at, run_in}
+use Rattle.vm_runs.specs.Course.{Run}
+use Rattle.vm_sim.specs.Course.{after_boundary, course_of, lines_at}
 use Rattle.vm_tally.specs.Counting.{greatest_over, sum_over}
 use Rattle.vm_tally.specs.Counts.{swapped_of}
 use Rattle.vm_tally.specs.GuestSummary.{guest_summary_after, most_swapped_in as most_of_guest}
@@ -66,7 +69,7 @@ running-epoch (Some guest) = refl
 epoch-at : (guests : Guests) (position : ℕ) → guest_in (each_changed epoch guests) position ≡ option_map epoch (guest_in guests position)
 epoch-at guests position = ap running (slice_get-map (option_map epoch) guests position) ∙ running-epoch (slice_get guests position)
 
-after-at : (course : Course) (k position : ℕ) → guest_at (after_in course k) position ≡ option_map epoch (guest_at (ready_in course k) position)
+after-at : (course : Run) (k position : ℕ) → guest_at (after_in course k) position ≡ option_map epoch (guest_at (ready_in course k) position)
 unfolding after_in ready_in after_boundary
 after-at course k position = epoch-at (ready_in course k).pool.guests position
 
@@ -75,11 +78,11 @@ entry-of None g is = absurd cc
 entry-of (Some guest) g is = ap Some is
 
 -- both numbers of the guest at a position in epoch k
-ready-number : (course : Course) (k position : ℕ) (g : GuestRecord) → guest_at (ready_in course k) position ≡ Some g
+ready-number : (course : Run) (k position : ℕ) (g : GuestRecord) → guest_at (ready_in course k) position ≡ Some g
     → number_of swapped_of (guest_at (ready_in course k) position) ≡ swapped_of g
 ready-number course k position g is = ap (number_of swapped_of) is
 
-after-number : (course : Course) (k position : ℕ) (g : GuestRecord) → guest_at (ready_in course k) position ≡ Some g
+after-number : (course : Run) (k position : ℕ) (g : GuestRecord) → guest_at (ready_in course k) position ≡ Some g
     → number_of swapped_of (guest_at (after_in course k) position) ≡ swapped_of (epoch g)
 after-number course k position g is = ap (number_of swapped_of) (after-at course k position ∙ ap (option_map epoch) is)
 
@@ -93,10 +96,10 @@ there P guest g is fact = subst (λ o. IfSome o P) is fact
 
 module _ (c : Config) (is : IsConfig c) (law : LawOfCourse)
     (at_an_end : (g : GuestRecord) → IsGood g → HasNothingPosted g → IsMostAtAnEnd g) where
-  abbrev course : Course
+  abbrev course : Run
   course = course_of c
 
-  served : IsServed (run_in course)
+  served : IsServed course
   served = law c.machine c.domains (lines_at c) c.epochs is.machine is.domains is.few
 
   -- each guest that a boundary leaves
@@ -129,7 +132,7 @@ module _ (c : Config) (is : IsConfig c) (law : LawOfCourse)
     where
       go : (guest : Option GuestRecord) → IfSome guest (λ g. (n : ℕ) → n ≤ pieces g → swapped_after n g ≡ 0) → number_of swapped_of (option_map epoch guest) ≡ 0
       go None fact = refl
-      go (Some g) fact = fact (pieces g) (omega arith)
+      go (Some g) fact = ap swapped_of (sym (pieces-epoch g)) ∙ fact (pieces g) (omega arith)
 
   nothing-is_none : NothingInSwap c → (summary_of c).most_swapped ≡ 0
   unfolding summary_after

@@ -2,13 +2,15 @@
 use Rattle.std.proofs.Common.{◌≡◌, ℕ, zero, suc, ◌+◌, ◌-◌, ◌<◌, ◌≤◌, Bool, true, false, List, [], ◌∷◌, ◌++◌, Option, Some, None, length, map, nat_le, nat_lt, if◌then◌else◌, get_or, refl, sym, ap, ◌∙◌, subst, inl, inr, arith}
 use Rattle.std.proofs.lemmas.Bool.{cases_lt, ltb-true}
 use Rattle.vm_balloon.specs.Device.{with_early_use}
-use Rattle.vm_guest.specs.Epoch.{after_pieces, closed, piece, pieces}
+use Rattle.vm_guest.specs.Epoch.{closed}
 use Rattle.vm_guest.specs.Good.{HasNothingPosted, IsGood, IsMemory, IsSound}
 use Rattle.vm_guest.specs.Memory.{Memory, has_spare, is_out_place, is_resident, resident, swapped, with_place, without_victim}
+use Rattle.vm_guest.specs.Pieces.{after_pieces, piece, pieces}
 use Rattle.vm_guest.specs.Record.{GuestRecord, is_ballooned}
 use Rattle.vm_guest.specs.Steps.{after_step, current_step, effect, executed, has_stalled, most_raw_posts, one_step, sampled, stall_of}
 use Rattle.vm_guest.specs.Touch.{evicted, framed, lacking, marked_used, placed_in, taken_early, touched}
 use Rattle.vm_guest.proofs.MemoryLemmas.{all_resident, resident-placed, resident-without_victim, resident_below, swapped-placed, victim, victim_resident, without_victim-memory}
+use Rattle.vm_guest.proofs.PieceLemmas.{pieces-epoch}
 use Rattle.vm_guest.proofs.PlaceLemmas.{count-moved, one_if, place_of_other}
 use Rattle.vm_guest.proofs.StepLemmas.{current_step-within}
 use Rattle.vm_guest.proofs.WordLemmas.{word_below}
@@ -209,7 +211,7 @@ module _ (g : GuestRecord) (sound : (n : ℕ) → n ≤ pieces g → IsSound (af
         | inr full ↦
             let rest : n + (pieces g - n) ≡ pieces g = omega arith in
             let end = subst (IsLeastFrom n) rest (to-end n (pieces g - n) (omega arith) full) in
-            omega (arith, end.least)
+            omega (arith, end.least, ap swapped_of (pieces-epoch g))
       ]
 
 pub most-at-an-end : (g : GuestRecord) → ((k : ℕ) (g : GuestRecord) → k ≤ pieces g → HasNothingPosted g → IsGood g → IsGood (after_pieces k g))

@@ -12,9 +12,10 @@ use Rattle.vm_host.specs.Answers.{AnswerValue}
 use Rattle.vm_host.specs.World.{World, guest_at}
 use Rattle.vm_plan.specs.Stretches.{stretches_of}
 use Rattle.vm_pool.specs.Readers.{stalled_of}
-use Rattle.vm_sim.specs.Course.{Course, after_boundary, course_of, world_in}
+use Rattle.vm_runs.specs.Course.{Run, host_after}
+use Rattle.vm_sim.specs.Course.{after_boundary, course_of}
 use Rattle.vm_sim.specs.Lines.{outcome_lines, state_line}
-use Rattle.vm_sim.specs.Report.{answer_lines, boundary_text, boundary_told, end_text, epoch_text, guest_lines, machine_line, name_at, positions, read_lines, report_of, shown_at, stall_lines, told_at, told_before, told_in_epoch}
+use Rattle.vm_sim.specs.Report.{answer_lines, boundary_text, report_of_boundary, end_text, epoch_text, guest_lines, machine_line, name_at, positions, read_lines, report_of, shown_at, stall_lines, report_at, report_of_epochs, report_of_epoch}
 use Rattle.vm_tally.specs.Summary.{after_in, ready_in, told_in}
 use Rattle.vm_tally_laws.specs.ReportLines.{ReportLine, blocked_at, guest_at_end, lines_at, lines_at_end, lines_before, lines_of, lines_of_answer, lines_of_boundary, lines_of_epoch, lines_of_guest, moved, paged_at, reads_of, stalls_of, text_of, text_of_lines}
 use Rattle.vm_tally_laws.specs.ReportLines.ReportLine.{Answer, Found, Grant, Read, Revoke}
@@ -94,13 +95,13 @@ end-is w =
 
 -- ---- the run
 
-epoch-told : (course : Course) (k : ℕ) → text_of_lines (lines_at course k) ≡ told_at course k
-unfolding told_in_epoch boundary_told ready_in after_in told_in after_boundary
+epoch-told : (course : Run) (k : ℕ) → text_of_lines (lines_at course k) ≡ report_at course k
+unfolding report_of_epoch report_of_boundary ready_in after_in told_in after_boundary
 epoch-told course k =
     text-append (lines_of_boundary (ready_in course k) k (told_in course k)) _
     ∙ (λ i. boundary-is (ready_in course k) k (told_in course k) i ++ epoch-is (after_in course k) i)
 
-before-told : (course : Course) (k : ℕ) → text_of_lines (lines_before course k) ≡ told_before course k
+before-told : (course : Run) (k : ℕ) → text_of_lines (lines_before course k) ≡ report_of_epochs course k
 before-told course zero = refl
 before-told course (suc k) =
     text-append (lines_before course k) (lines_at course k) ∙ (λ i. before-told course k i ++ epoch-told course k i)
@@ -108,4 +109,4 @@ before-told course (suc k) =
 pub report-is_lines : (c : Config) → report_of c ≡ text_of_lines (lines_of c)
 report-is_lines c =
     let course = course_of c in
-    sym (text-append (lines_before course c.epochs) _ ∙ (λ i. before-told course c.epochs i ++ end-is (world_in course c.epochs) i))
+    sym (text-append (lines_before course c.epochs) _ ∙ (λ i. before-told course c.epochs i ++ end-is (host_after course c.epochs) i))

@@ -16,7 +16,8 @@ use Rattle.vm_plan.specs.declared.state.State.{State}
 use Rattle.vm_plan.specs.Stretches.{stretches_of}
 use Rattle.vm_pool.specs.Readers.{stalled_of}
 use Rattle.vm_reclaim.specs.declared.told.Paged.{Paged}
-use Rattle.vm_sim.specs.Course.{Course, course_of, world_in}
+use Rattle.vm_runs.specs.Course.{Run, host_after}
+use Rattle.vm_sim.specs.Course.{course_of}
 use Rattle.vm_sim.specs.Lines.{block_line, command_line, guest_line, move_line, outcome_lines, read_line, stall_line, state_line}
 use Rattle.vm_sim.specs.Report.{machine_line, name_at, positions}
 use Rattle.vm_tally.specs.Summary.{after_in, ready_in, told_in}
@@ -125,16 +126,16 @@ lines_at_end w =
 -- ---- the run
 
 -- the lines of epoch k of a course, and of the boundary before it
-abbrev pub lines_at : Course → ℕ → List ReportLine
+abbrev pub lines_at : Run → ℕ → List ReportLine
 lines_at course k = lines_of_boundary (ready_in course k) k (told_in course k) ++ lines_of_epoch (after_in course k)
 
 -- those of so many epochs
-abbrev pub lines_before : Course → ℕ → List ReportLine
+abbrev pub lines_before : Run → ℕ → List ReportLine
 lines_before course zero = []
 lines_before course (suc k) = lines_before course k ++ lines_at course k
 
-abbrev pub lines_in : Course → List ReportLine
-lines_in course = lines_before course course.epochs ++ lines_at_end (world_in course course.epochs)
+abbrev pub lines_in : Run → List ReportLine
+lines_in course = lines_before course course.epochs ++ lines_at_end (host_after course course.epochs)
 
 -- the lines of the report of a configuration
 abbrev pub lines_of : Config → List ReportLine

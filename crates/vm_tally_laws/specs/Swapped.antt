@@ -1,7 +1,8 @@
 -- Pages in swap inside an epoch, of which a boundary and the end of an epoch tell nothing by themselves.
 use Rattle.std.specs.Prelude.{◌≡◌, ◌<◌, ◌≤◌, ◌↔◌, ℕ, IfSome, max}
 use Rattle.vm_config.specs.declared.config.Config.{Config}
-use Rattle.vm_guest.specs.Epoch.{after_pieces, epoch, pieces}
+use Rattle.vm_guest.specs.Epoch.{epoch}
+use Rattle.vm_guest.specs.Pieces.{after_pieces, pieces}
 use Rattle.vm_guest.specs.Record.{GuestRecord}
 use Rattle.vm_host.specs.World.{guest_at}
 use Rattle.vm_sim.specs.Course.{course_of}

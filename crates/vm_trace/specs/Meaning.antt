@@ -1,4 +1,4 @@
--- The step that a text is, or the first fault in it. The format of traces is this project's own.
+-- The step that a text is: what Spelling has as facts, as functions that compute it, and the first fault of a text that is none.
 use Rattle.std.specs.Prelude.{ℕ, ◌+◌, ◌-◌, ◌==◌, Bool, nat_le, if◌then◌else◌, List, [], ◌∷◌, length, codes, bytes_eq, Result, Ok, Err}
 use Rattle.std.specs.List.{list_any}
 use Rattle.vm_trace.specs.declared.error.TraceError.{TraceError}
@@ -8,6 +8,8 @@ use Rattle.vm_trace.specs.declared.step.Queue.TheVariants.{Inflate, Deflate, Sta
 use Rattle.vm_trace.specs.declared.step.Step.{Step}
 use Rattle.vm_trace.specs.declared.step.Action.TheVariants.{Read, Write, Free, Idle, Post}
 use Rattle.vm_trace.specs.Words.{◌>>=◌, words_of, number_in, bytes_in}
+
+-- ---- the same as functions (law_spelling), and faults
 
 -- r PAGE OFFSET LEN: the bytes that are read lie in the page
 unfoldable pub read_step : ℕ → List ℕ → List ℕ → List ℕ → Result Step TraceError
@@ -61,7 +63,8 @@ step_of_words pages _ = Err Unknown
 abbrev pub is_empty_word : List ℕ → Bool
 is_empty_word word = length word == 0
 
--- the step that a text is, for a guest with this many pages
+-- for a guest with this many pages
+-- the one step that is such: IsSpelled, by vm_trace::law_spelling; a fault is by the function alone
 unfoldable pub step_within : ℕ → List ℕ → Result Step TraceError
 step_within pages text =
     if list_any is_empty_word (words_of text) then Err Unknown else step_of_words pages (words_of text)

@@ -10,14 +10,14 @@ use Rattle.vm_plan.specs.Grants.{grants_up_to}
 use Rattle.vm_commands.specs.Sizes.{unit_of, bytes_of_size, pages_of_size}
 use Rattle.vm_commands.specs.Lines.{set_memory, minimum_of, set_minimum, shares_of, set_shares, domain_command, joined_size, tune_joined, sized_command, tune_command, command_of_words, command_of}
 use Rattle.std.specs.Fmt.{digits}
-use Rattle.vm_sim.specs.Course.{after_boundary, told_by_boundary}
+use Rattle.vm_sim.specs.Course.{after_boundary, boundary_of_lines}
 use Rattle.vm_tally.specs.Summary.{after_in, ready_in, summary_after, told_in}
 use Rattle.host_cases.proofs.law_numbers.Goals as goal
 
 pub returns-clause-both_books : goal.returns-clause-both_books
-unfolding word words_after pick state_after zero_bytes distinct adjusted_ratio best_offer revocation_list grants_up_to unit_of bytes_of_size pages_of_size set_memory minimum_of set_minimum shares_of set_shares domain_command joined_size tune_joined sized_command tune_command command_of_words command_of digits after_boundary told_by_boundary told_in ready_in after_in summary_after
+unfolding word words_after pick state_after zero_bytes distinct adjusted_ratio best_offer revocation_list grants_up_to unit_of bytes_of_size pages_of_size set_memory minimum_of set_minimum shares_of set_shares domain_command joined_size tune_joined sized_command tune_command command_of_words command_of digits after_boundary boundary_of_lines told_in ready_in after_in summary_after
 returns-clause-both_books c = refl
 
 pub returns-clause-drawn_20 : goal.returns-clause-drawn_20
-unfolding word words_after pick state_after zero_bytes distinct adjusted_ratio best_offer revocation_list grants_up_to unit_of bytes_of_size pages_of_size set_memory minimum_of set_minimum shares_of set_shares domain_command joined_size tune_joined sized_command tune_command command_of_words command_of digits after_boundary told_by_boundary told_in ready_in after_in summary_after
+unfolding word words_after pick state_after zero_bytes distinct adjusted_ratio best_offer revocation_list grants_up_to unit_of bytes_of_size pages_of_size set_memory minimum_of set_minimum shares_of set_shares domain_command joined_size tune_joined sized_command tune_command command_of_words command_of digits after_boundary boundary_of_lines told_in ready_in after_in summary_after
 returns-clause-drawn_20 c = refl

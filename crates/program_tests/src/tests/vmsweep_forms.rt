@@ -235,6 +235,7 @@ fn curves_are_named_by_what_differs(rt: HostRuntime) {
     }
     let words = ["vmsweep", "--svg", "--frames=30,65,100"];
     let svg = drawn(&rt, &words, DRIVERS, "");
+    assert_shows(&rt, &svg, ">3 machines, 1 combination of swap");
     assert_count(&rt, &svg, " d=\"M0,0L440,0L880,0\"><title>all</title>", 1);
     assert_count(
         &rt,

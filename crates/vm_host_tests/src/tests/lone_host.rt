@@ -61,7 +61,7 @@ impl LoneHost {
         told: Told,
     ) {
         let boundary = self.boundary(rt, lines_of(rt, lines));
-        check_eq(rt, told_by(&boundary), told);
+        check_eq(rt, history_by(&boundary), told);
     }
 
     // Asserts what becomes of each line of a boundary, and what it tells.
@@ -236,7 +236,7 @@ fn taken_by(boundary: &Boundary) -> [usize; 2] {
     }
 }
 
-fn told_by(boundary: &Boundary) -> Told {
+fn history_by(boundary: &Boundary) -> Told {
     Told {
         state: boundary.state,
         free: boundary.free,
@@ -255,7 +255,7 @@ fn assert_answers(rt: &impl Abort, boundary: &Boundary, wanted: &[(&str, Outcome
     for (answer, (line, outcome)) in answers.iter().zip(wanted) {
         check_eq(rt, (answer.line(), answer.outcome()), (*line, *outcome));
     }
-    check_eq(rt, (wanted, told_by(boundary)), (wanted, told));
+    check_eq(rt, (wanted, history_by(boundary)), (wanted, told));
 }
 
 // How many frames a guest is to have, and how many it has.

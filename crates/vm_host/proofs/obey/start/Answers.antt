@@ -5,7 +5,7 @@ use Rattle.vm_pool.specs.Changes.{frames_to_start}
 use Rattle.vm_pool.specs.Pool.{PoolView, guest_at}
 use Rattle.vm_tax.specs.Ratio.{hundredths}
 use Rattle.vm_reclaim.specs.Room.{needed_to_start}
-use Rattle.vm_reclaim.specs.Room.{room_made, taken_early, with_surplus_back}
+use Rattle.vm_reclaim.specs.Room.{room_made, revocations_for_room, with_surplus_back}
 use Rattle.vm_reclaim.proofs.RoomLemmas.{configs_taken, kept_room, length_room, overhead_taken, stopped_room}
 use Rattle.vm_host.proofs.obey.start.Goals as goal
 
@@ -35,7 +35,7 @@ start-requires-clause-enough c =
     let position = c.args.position in
     let needed = needed_to_start pool position in
     let whole = c.in_ok-plan.ensures.done ∙ ap (λ n. room_made tax None n pool) c.needed_to_start-needed.ensures in
-    let moves = taken_early tax None needed pool in
+    let moves = revocations_for_room tax None needed pool in
     let left = with_surplus_back None needed pool in
     let made = room_made tax None needed pool in
     let same : frames_to_start made.overhead (slice_get made.configs position) ≡ needed = λ i. frames_to_start (overhead_taken moves left i) (slice_get (configs_taken moves left i) position) in

@@ -1,6 +1,6 @@
 use Rattle.std.proofs.Common.{◌≡◌, ◌∙◌, ◌<◌, ◌⊎◌, ℕ, List, ap, arith, inl, inr, length, map, refl, string_bytes, subst, sym}
 use Rattle.vm_host.specs.declared.boundary.Boundary.{Boundary}
-use Rattle.vm_host.specs.Boundary.{boundary_of, bounded, finished, opened, told_after}
+use Rattle.vm_host.specs.Boundary.{boundary_of, past_boundary, finished, opened, boundary_after_lines}
 use Rattle.vm_host.specs.Books.{books_of}
 use Rattle.vm_host.specs.Commands.{after_lines, answers_to, IsAfterSome}
 use Rattle.vm_host.specs.Parts.{world_of}
@@ -38,7 +38,7 @@ returns-clause-done c =
     let left = world_of c.obey_all.new.parts in
     let mid : left ≡ after_lines (policy_of w.machine) (opened w) lines =
     c.in_ok-answers.ensures.done ∙ (λ j. after_lines (policy_of (start j).machine) (start j) lines) in
-    on-ok c.settle.result (world_of c.settle.new.parts ≡ finished (policy_of left.machine) left) (world_of c.settle.new.parts ≡ bounded w lines)
+    on-ok c.settle.result (world_of c.settle.new.parts ≡ finished (policy_of left.machine) left) (world_of c.settle.new.parts ≡ past_boundary w lines)
     (λ done. done ∙ bounded-of w left lines mid) c.settle.ensures.done
 
 pub returns-clause-told : goal.returns-clause-told
@@ -52,7 +52,7 @@ returns-clause-told c =
     c.in_ok-answers.ensures.done ∙ (λ j. after_lines (policy_of (start j).machine) (start j) lines) in
     let told : answers ≡ answers_to (policy_of w.machine) (opened w) lines =
     c.in_ok-answers.ensures.answers ∙ (λ j. answers_to (policy_of (start j).machine) (start j) lines) in
-    if-ok c.settle.result (λ (b : Boundary). b ≡ told_after (policy_of left.machine) left answers) (λ (b : Boundary). b ≡ boundary_of w lines)
+    if-ok c.settle.result (λ (b : Boundary). b ≡ boundary_after_lines (policy_of left.machine) left answers) (λ (b : Boundary). b ≡ boundary_of w lines)
     (λ b is. is ∙ told-of w left lines answers mid told) c.settle.ensures.told
 
 pub returns-clause-booked : goal.returns-clause-booked

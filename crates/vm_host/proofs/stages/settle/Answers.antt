@@ -14,7 +14,7 @@ plan_boundary-requires c =
 pub returns-clause-kept : goal.returns-clause-kept
 returns-clause-kept c =
     let first = c.args.parts.now.pool in
-    let wait = c.waits_in.result in
+    let wait = c.blocks_in.result in
     let moved = c.order_all.ensures ∙ ap (with_orders wait) (c.carry_out.ensures ∙ c.in_ok-plan.ensures.done) in
     record {
       machine = refl;

@@ -2,7 +2,7 @@ use Rattle.std.proofs.Common.{refl}
 use Rattle.vm_guest.specs.Boundary.{ordered, revoked, serviced, with_cap, with_shares}
 use Rattle.vm_guest.specs.Epoch.{epoch}
 use Rattle.vm_guest.proofs.EpochLemmas.{epoch-held, serviced-held}
-use Rattle.vm_pool.specs.Changes.{waits_above}
+use Rattle.vm_pool.specs.Changes.{blocked_above}
 use Rattle.vm_pool.proofs.ConservesLemmas.{conserves-all_changed, conserves-changed, conserves-first, conserves-granted, conserves-released, conserves-released_all, conserves-spares, conserves-started, conserves-stopped, conserves-with_min}
 use Rattle.vm_pool.proofs.law.law_conserves.Goals as goal
 
@@ -46,7 +46,7 @@ pub returns-clause-ordered : goal.returns-clause-ordered
 returns-clause-ordered c = λ blocked p i. conserves-changed (λ g. ordered g blocked) p i (λ g. refl)
 
 pub returns-clause-ordered_all : goal.returns-clause-ordered_all
-returns-clause-ordered_all c = λ wait p. conserves-all_changed (λ g. ordered g (waits_above wait g)) p (λ g. refl)
+returns-clause-ordered_all c = λ wait p. conserves-all_changed (λ g. ordered g (blocked_above wait g)) p (λ g. refl)
 
 pub returns-clause-epoch : goal.returns-clause-epoch
 returns-clause-epoch c = λ p. conserves-all_changed epoch p epoch-held

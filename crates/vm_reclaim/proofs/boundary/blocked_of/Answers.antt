@@ -2,7 +2,7 @@ use Rattle.std.proofs.Common.{◌≡◌, ◌+◌, ◌++◌, ◌∙◌, ℕ, List
 use Rattle.std.proofs.lemmas.List.{length-map}
 use Rattle.vm_plan.specs.PlanRow.{row_of, rows_of}
 use Rattle.vm_reclaim.specs.Planning.{waiting_from}
-use Rattle.vm_reclaim.specs.Reclaim.{waits_in}
+use Rattle.vm_reclaim.specs.Reclaim.{blocks_in}
 use Rattle.vm_reclaim.proofs.PlanningLemmas.{here-read, none-waits, step-waiting}
 use Rattle.vm_reclaim.proofs.boundary.blocked_of.Goals as goal
 
@@ -11,7 +11,7 @@ loop-position-preserved c =
     let i = c.loop-position.position in
     let rows = rows_of c.args.rows.now in
     let row = c.index-rows-position.result in
-    let wait = waits_in c.args.state in
+    let wait = blocks_in c.args.state in
     let ends = c.loop-position.invariant.ends in
     let before = c.loop-position-test.true in
     let wide = length-map c.args.rows.now row_of in
@@ -22,8 +22,8 @@ loop-position-preserved c =
           (here-read c.args.rows.now i row (omega (arith, ends, before)) c.index-rows-position.is) c.waits.ensures c.loop-position.invariant.done;
     }
 
-pub returns-then-not-waits_in-clause-list : goal.returns-then-not-waits_in-clause-list
-returns-then-not-waits_in-clause-list c =
+pub returns-then-not-blocks_in-clause-list : goal.returns-then-not-blocks_in-clause-list
+returns-then-not-blocks_in-clause-list c =
     let rows = rows_of c.args.rows.now in
-    let run : waits_in c.args.state ≡ false = sym c.waits_in.ensures ∙ c.if-not-waits_in.true in
+    let run : blocks_in c.args.state ≡ false = sym c.blocks_in.ensures ∙ c.if-not-blocks_in.true in
     c.new.ensures ∙ (c.new-blocked.ensures.items ∙ sym (ap (λ wait. waiting_from 0 wait rows) run ∙ none-waits 0 rows))

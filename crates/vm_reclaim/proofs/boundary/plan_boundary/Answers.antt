@@ -10,7 +10,7 @@ use Rattle.vm_reclaim.specs.declared.told.Paged.{Paged}
 use Rattle.vm_reclaim.specs.Boundary.{carried_out, pool_reclaimed, CanCarryOut}
 use Rattle.vm_reclaim.specs.Numbers.{policy_in}
 use Rattle.vm_reclaim.specs.Planning.{frames_in, waiting_from}
-use Rattle.vm_reclaim.specs.Reclaim.{pool_revoked, revocations_in, waits_in}
+use Rattle.vm_reclaim.specs.Reclaim.{pool_revoked, revocations_in, blocks_in}
 use Rattle.vm_reclaim.specs.Rows.{plan_pool_of, rows_of}
 use Rattle.vm_reclaim.proofs.CanLemmas.{can_revoke}
 use Rattle.vm_reclaim.proofs.CarryLemmas.{can-settle, settled-is}
@@ -75,8 +75,8 @@ returns-clause-plan c =
     ∙ (ap (λ (rows : List PlanRow). grant_list state policy.thresholds policy.tax (pool_of c.free_after.result rows)) (c.deref.ensures.value ∙ take_at c.page_rows.new.rows _ c.in_ok-rows.rows.len (omega arith))
     ∙ ap (grant_list state policy.thresholds policy.tax) planned) in
     let blocked = c.in_ok-blocked.ensures.list
-    ∙ (ap (λ (rows : List PlanRow). waiting_from 0 (waits_in state) (plan_rows rows)) (c.deref-2.ensures.value ∙ take_at c.page_rows.new.rows _ c.in_ok-rows.rows.len (omega arith))
-    ∙ (ap (λ (pool : Pool). waiting_from 0 (waits_in state) pool.rows) planned ∙ blocked-are policy state (pool_reclaimed policy state pool))) in
+    ∙ (ap (λ (rows : List PlanRow). waiting_from 0 (blocks_in state) (plan_rows rows)) (c.deref-2.ensures.value ∙ take_at c.page_rows.new.rows _ c.in_ok-rows.rows.len (omega arith))
+    ∙ (ap (λ (pool : Pool). waiting_from 0 (blocks_in state) pool.rows) planned ∙ blocked-are policy state (pool_reclaimed policy state pool))) in
     λ i. record { revoked = c.in_ok-revoked.ensures.plan i; paged = paged i; granted = granted i; blocked = blocked i }
 
 pub returns-clause-granted_fairly : goal.returns-clause-granted_fairly

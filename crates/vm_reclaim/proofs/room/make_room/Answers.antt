@@ -4,7 +4,7 @@ use Rattle.vm_pool.specs.Pool.{PoolView}
 use Rattle.vm_tax.specs.Ratio.{hundredths}
 use Rattle.vm_reclaim.specs.Fairness.{TakesFromCheapest}
 use Rattle.vm_sound.specs.Moves.{CanTake}
-use Rattle.vm_reclaim.specs.Room.{raised, taken_early, with_surplus_back}
+use Rattle.vm_reclaim.specs.Room.{raised, revocations_for_room, with_surplus_back}
 use Rattle.vm_sound.specs.Sound.{HasSameSetup}
 use Rattle.vm_reclaim.proofs.FairLemmas.{fair-command}
 use Rattle.vm_reclaim.proofs.RoomLemmas.{kept_room, list_of_room}
@@ -32,9 +32,9 @@ take_all-requires c =
     let good = c.in_ok-room.ensures.good in
     let left = with_surplus_back raise needed pool in
     let given = c.release_all.ensures ∙ ap (λ (counts : List ℕ). with_released counts pool) (c.deref.ensures.value ∙ c.in_ok-room.ensures.counts) in
-    let can = can_make tax raise needed (needed - left.free) pool (taken_early tax raise needed pool) good c.requires.needed (omega arith) (list_of_room tax raise needed pool good) in
+    let can = can_make tax raise needed (needed - left.free) pool (revocations_for_room tax raise needed pool) good c.requires.needed (omega arith) (list_of_room tax raise needed pool good) in
     subst (λ (moves : List ℕ). CanTake c.release_all.new.self moves) (sym c.in_ok-room.ensures.plan)
-    (subst (λ (p : PoolView). CanTake p (taken_early tax raise needed pool)) (sym given) can)
+    (subst (λ (p : PoolView). CanTake p (revocations_for_room tax raise needed pool)) (sym given) can)
 
 pub returns-clause-fair : goal.returns-clause-fair
 returns-clause-fair c =
@@ -44,7 +44,7 @@ returns-clause-fair c =
     let tax = hundredths c.args.tax in
     let left = with_surplus_back raise needed pool in
     subst (λ (moves : List ℕ). TakesFromCheapest tax taken_at (raised raise left) moves) (sym c.in_ok-room.ensures.plan)
-    (fair-command tax (needed - left.free) (raised raise left) (taken_early tax raise needed pool) (list_of_room tax raise needed pool c.in_ok-room.ensures.good))
+    (fair-command tax (needed - left.free) (raised raise left) (revocations_for_room tax raise needed pool) (list_of_room tax raise needed pool c.in_ok-room.ensures.good))
 
 pub returns-clause-setup : goal.returns-clause-setup
 returns-clause-setup c =

@@ -12,7 +12,7 @@ returns-clause-written c =
       c.put_word-state.ensures.written,
       c.put_number-free.ensures.written,
       full,
-      c.state_word.ensures.word,
+      c.as_str.ensures.word,
       c.state.ensures,
       c.from.ensures,
       c.free.ensures,

@@ -1,5 +1,5 @@
 use Rattle.std.proofs.Common.{◌≡◌, ◌<◌, ◌≤◌, length, rules, ap}
-use Rattle.vm_sim.specs.declared.calendar.Room.{Room}
+use Rattle.vm_sim.specs.declared.calendar.CalendarSize.{CalendarSize}
 use Rattle.vm_sim.proofs.CalendarLemmas.{still_enough, still_least, still_within}
 use Rattle.vm_sim.proofs.calendar.room_for.Goals as goal
 
@@ -18,7 +18,7 @@ loop-position-preserved c =
     let never : epochs ≤ command.at → (new.epochs ≡ old.epochs) × (new.commands ≡ old.commands) =
     λ past.
     let same = c.more_room-room.ensures.never_runs past in
-    (ap (λ (r : Room). r.epochs) same, ap (λ (r : Room). r.commands) same) in
+    (ap (λ (r : CalendarSize). r.epochs) same, ap (λ (r : CalendarSize). r.commands) same) in
     record {
       enough = still_enough epochs commands position command within here old.epochs old.commands new.epochs new.commands runs never so_far.within so_far.enough;
       within = still_within epochs commands position command within here old.epochs old.commands new.epochs new.commands runs never so_far.within;

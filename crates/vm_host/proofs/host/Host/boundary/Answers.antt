@@ -1,7 +1,7 @@
 use Rattle.std.proofs.Common.{◌≡◌, ◌≢◌, ◌∙◌, ◌<◌, ◌≤◌, ℕ, List, ⊎_elim, ap, arith, inl, inr, length, map, refl, rules, string_bytes, subst, sym}
 use Rattle.std.proofs.lemmas.List.{length-map}
 use Rattle.vm_host.specs.declared.phase.Phase.TheVariants.{Failed}
-use Rattle.vm_host.specs.Boundary.{boundary_of, bounded, FailsAfterSome}
+use Rattle.vm_host.specs.Boundary.{boundary_of, past_boundary, FailsAfterSome}
 use Rattle.vm_host.specs.Fairness.{IsFairBoundary}
 use Rattle.vm_host.specs.Parts.{world_of}
 use Rattle.vm_host.specs.Sound.{IsSoundWorld}
@@ -62,7 +62,7 @@ invariant_of-self c =
     record { paired = paired-domains _ sound; adds_up = sound.conserves; sound = λ _. sound; booked = λ _. c.in-Ok.ensures.booked }
 
 pub returns-in-Ok-clause-done : goal.returns-in-Ok-clause-done
-returns-in-Ok-clause-done c = c.in-Ok.ensures.done ∙ (λ j. bounded (c.self.view_is j) (c.as_slice.ensures j))
+returns-in-Ok-clause-done c = c.in-Ok.ensures.done ∙ (λ j. past_boundary (c.self.view_is j) (c.as_slice.ensures j))
 
 pub returns-in-Ok-clause-told : goal.returns-in-Ok-clause-told
 returns-in-Ok-clause-told c = c.in-Ok.ensures.told ∙ (λ j. boundary_of (c.self.view_is j) (c.as_slice.ensures j))

@@ -4,6 +4,7 @@ use Rattle.vm_guest.specs.Start.{started}
 use Rattle.vm_pool.specs.Changes.{started_at}
 use Rattle.vm_pool.specs.Pool.{PoolView, held_by}
 use Rattle.vm_pool.specs.Slots.{config_in, guest_in}
+use Rattle.vm_pool.proofs.MoveLemmas.{aside-added}
 use Rattle.vm_pool.proofs.PoolLemmas.{enough-to-start, guest-here, pool-moved, room-here, room-there, settled-at, starts-at, stopped-here, view-started, within-slots}
 use Rattle.vm_pool.proofs.pool.Pool.start.Goals as goal
 
@@ -32,8 +33,8 @@ start-requires-clause-enough c =
     let within = c.self.invariant.within in
     omega (arith, enough, within)
 
-pub set_aside-requires-clause-enough : goal.set_aside-requires-clause-enough
-set_aside-requires-clause-enough c =
+pub take_frames-requires-clause-enough : goal.take_frames-requires-clause-enough
+take_frames-requires-clause-enough c =
     let p = c.self.inside in
     let i = c.args.position in
     let was = c.index_mut.result.now in
@@ -47,8 +48,8 @@ set_aside-requires-clause-enough c =
     let within = c.self.invariant.within in
     omega (arith, enough, nothing, held, count, total, within)
 
-pub set_aside-requires-clause-room : goal.set_aside-requires-clause-room
-set_aside-requires-clause-room c =
+pub take_frames-requires-clause-room : goal.take_frames-requires-clause-room
+take_frames-requires-clause-room c =
     let p = c.self.inside in
     let i = c.args.position in
     let was = c.index_mut.result.now in
@@ -69,9 +70,10 @@ invariant_of-self c =
     let here = guest-here p c.args.self.now i was c.self.view_is there c.index_mut.ensures.value in
     let none : guest_in was ≡ None = sym here ∙ c.requires.stopped in
     let enough = enough-to-start p c.args.self.now i was c.self.view_is there c.index_mut.ensures.value c.requires.enough in
-    let more : length c.set_aside.new.aside.items ≡ length p.aside.items + p.overhead = omega (arith, c.set_aside.ensures.count, c.set_aside.new.aside.ok, p.aside.ok) in
-    let moves = starts-at p i was c.start.new.slot c.start.new.machine c.set_aside.new.machine c.set_aside.new.aside.items c.self.invariant there c.index_mut.ensures.value none c.start.ensures c.set_aside.ensures.moved more enough in
-    pool-moved p i was c.start.new.slot c.start.new.machine c.set_aside.new.machine c.set_aside.new.aside (Some (started (config_in was))) c.self.invariant moves c.set_aside.ensures.room
+    let more : length c.take_frames.new.frames.items ≡ length p.aside.items + p.overhead = omega (arith, c.take_frames.ensures.taken, c.take_frames.new.frames.ok, p.aside.ok) in
+    let aside = aside-added p.aside.items c.take_frames.new.frames.items p.overhead _ _ c.take_frames.ensures.added c.take_frames.ensures.count more in
+    let moves = starts-at p i was c.start.new.slot c.start.new.machine c.take_frames.new.machine c.take_frames.new.frames.items c.self.invariant there c.index_mut.ensures.value none c.start.ensures aside more enough in
+    pool-moved p i was c.start.new.slot c.start.new.machine c.take_frames.new.machine c.take_frames.new.frames (Some (started (config_in was))) c.self.invariant moves c.take_frames.ensures.capacity
 
 pub returns : goal.returns
 returns c =
@@ -82,7 +84,8 @@ returns c =
     let here = guest-here p c.args.self.now i was c.self.view_is there c.index_mut.ensures.value in
     let none : guest_in was ≡ None = sym here ∙ c.requires.stopped in
     let enough = enough-to-start p c.args.self.now i was c.self.view_is there c.index_mut.ensures.value c.requires.enough in
-    let more : length c.set_aside.new.aside.items ≡ length p.aside.items + p.overhead = omega (arith, c.set_aside.ensures.count, c.set_aside.new.aside.ok, p.aside.ok) in
-    let moves = starts-at p i was c.start.new.slot c.start.new.machine c.set_aside.new.machine c.set_aside.new.aside.items c.self.invariant there c.index_mut.ensures.value none c.start.ensures c.set_aside.ensures.moved more enough in
-    view-started p i was c.start.new.slot c.start.new.machine c.set_aside.new.machine c.set_aside.new.aside none moves more
+    let more : length c.take_frames.new.frames.items ≡ length p.aside.items + p.overhead = omega (arith, c.take_frames.ensures.taken, c.take_frames.new.frames.ok, p.aside.ok) in
+    let aside = aside-added p.aside.items c.take_frames.new.frames.items p.overhead _ _ c.take_frames.ensures.added c.take_frames.ensures.count more in
+    let moves = starts-at p i was c.start.new.slot c.start.new.machine c.take_frames.new.machine c.take_frames.new.frames.items c.self.invariant there c.index_mut.ensures.value none c.start.ensures aside more enough in
+    view-started p i was c.start.new.slot c.start.new.machine c.take_frames.new.machine c.take_frames.new.frames none moves more
     ∙ ap (λ (v : PoolView). started_at v i) c.self.view_is
