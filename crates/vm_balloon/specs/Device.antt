@@ -21,7 +21,7 @@ pub record DeviceState : Type 0 where
   -- the bytes of each posted buffer, by queue, in order of posting
   pub inflates : List (List ℕ)
   pub deflates : List (List ℕ)
-  pub reports : List (List ℕ)
+  pub statistics : List (List ℕ)
   -- the two numbers of the configuration space
   pub num_pages : ℕ
   pub actual : ℕ
@@ -48,7 +48,7 @@ device_of size buffers = record {
   early = no_pages size;
   inflates = [];
   deflates = [];
-  reports = [];
+  statistics = [];
   num_pages = 0;
   actual = 0;
   stats = no_stats;
@@ -56,7 +56,7 @@ device_of size buffers = record {
 
 -- how many buffers are posted
 abbrev pub posted_count : DeviceState → ℕ
-posted_count d = length d.inflates + length d.deflates + length d.reports
+posted_count d = length d.inflates + length d.deflates + length d.statistics
 
 -- no page is in both sets
 abbrev pub AreApart : List Bool → List Bool → Type 0
@@ -75,11 +75,11 @@ pub record IsGood (d : DeviceState) : Type 0 where
 abbrev pub with_posted : DeviceState → Queue → List ℕ → DeviceState
 with_posted d Inflate bytes = record d { inflates = d.inflates ++ bytes ∷ [] }
 with_posted d Deflate bytes = record d { deflates = d.deflates ++ bytes ∷ [] }
-with_posted d Statistics bytes = record d { reports = d.reports ++ bytes ∷ [] }
+with_posted d Statistics bytes = record d { statistics = d.statistics ++ bytes ∷ [] }
 
 -- a page number in the page buffers is this page
-abbrev pub names : List (List ℕ) → ℕ → Bool
-names buffers page = list_any (λ number. number == page) (numbers_in buffers)
+abbrev pub is_named : List (List ℕ) → ℕ → Bool
+is_named buffers page = list_any (λ number. number == page) (numbers_in buffers)
 
 -- a ballooned page is used before the device took it out
 abbrev pub with_early_use : DeviceState → ℕ → DeviceState
@@ -101,9 +101,9 @@ deflated d = deflated_by (filled d) d.early (numbers_in d.deflates)
 abbrev pub bad : DeviceState → ℕ
 bad d = refused d.inflates (inflated d) + refused d.deflates (deflated d)
 
--- what the last of the reports says, if there is one
+-- what the last of the statistics buffers says, if there is one; else what was said before
 abbrev pub last_stats : Stats → List (List ℕ) → Stats
-last_stats stats reports = unwrap_or (option_map stats_of (last reports)) stats
+last_stats stats buffers = unwrap_or (option_map stats_of (last buffers)) stats
 
 -- the device after a service
 abbrev pub served : DeviceState → DeviceState
@@ -112,6 +112,6 @@ served d = record d {
   early = no_pages d.size;
   inflates = [];
   deflates = [];
-  reports = [];
-  stats = last_stats d.stats d.reports;
+  statistics = [];
+  stats = last_stats d.stats d.statistics;
 }

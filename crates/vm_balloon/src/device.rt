@@ -4,7 +4,7 @@ ghost use Rattle.std.specs.Int.{w32, to_le_bytes};
 ghost use Rattle.vm_pages.specs.Pages.{no_pages, contains, count, members, insert_all, remove_all};
 ghost use Rattle.vm_balloon.specs.Room.{HasRoomFor, KeepsRoom};
 ghost use Rattle.vm_balloon.specs.Service.{numbers_in, refused, inflated_by, deflated_by};
-ghost use Rattle.vm_balloon.specs.Device.{device_of, no_stats, posted_count, with_posted, names, with_early_use, inflated, deflated, bad, served, IsGood};
+ghost use Rattle.vm_balloon.specs.Device.{device_of, no_stats, posted_count, with_posted, is_named, with_early_use, inflated, deflated, bad, served, IsGood};
 
 use crate::buffer::MOST_BYTES;
 use crate::page_queue::PageQueue;
@@ -247,7 +247,7 @@ impl Device {
     /// Whether a posted inflate buffer names the page.
     pub fn posted_inflate(&self, page: u32) -> bool
         requires { page < self.now.size }
-        ensures { result ≡ names self.now.inflates page }
+        ensures { result ≡ is_named self.now.inflates page }
     {
         self.inflates.names(page)
     }
@@ -255,7 +255,7 @@ impl Device {
     /// Whether a posted deflate buffer names the page.
     pub fn posted_deflate(&self, page: u32) -> bool
         requires { page < self.now.size }
-        ensures { result ≡ names self.now.deflates page }
+        ensures { result ≡ is_named self.now.deflates page }
     {
         self.deflates.names(page)
     }
@@ -265,7 +265,7 @@ impl Device {
     pub fn use_early(&mut self, page: u32)
         requires page_in_range { page < self.old.size }
         requires ballooned { contains self.old.balloon page ≡ true }
-        requires not_in_flight { names self.old.inflates page ≡ false }
+        requires not_in_flight { is_named self.old.inflates page ≡ false }
         ensures { self.new ≡ with_early_use self.old page }
     {
         self.balloon.remove(page);

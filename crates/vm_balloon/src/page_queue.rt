@@ -2,7 +2,7 @@ ghost use Rattle.std.specs.Prelude.{◌≡◌, ◌+◌, ◌<◌, ◌≤◌, ◌�
 ghost use Rattle.vm_pages.specs.Pages.{insert, remove, insert_all, remove_all};
 ghost use Rattle.vm_balloon.specs.Virtio.{page_numbers};
 ghost use Rattle.vm_balloon.specs.Service.{numbers_in};
-ghost use Rattle.vm_balloon.specs.Device.{names};
+ghost use Rattle.vm_balloon.specs.Device.{is_named};
 
 use crate::buffer::Buffer;
 use crate::buffers::Buffers;
@@ -87,7 +87,7 @@ impl PageQueue {
     /// Whether a buffer names the page, in constant time.
     pub(crate) fn names(&self, page: u32) -> bool
         requires { page < self.now.size }
-        ensures { result ≡ names self.now.buffers page }
+        ensures { result ≡ is_named self.now.buffers page }
     {
         self.named.contains(page)
     }

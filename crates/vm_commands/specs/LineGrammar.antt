@@ -91,7 +91,7 @@ pub record IsLine (line : List ℕ) (command : Command) : Type 0 where
   pub fits : IsOfForm line form
   pub asks : AsksFor form command
 
--- the line has a form, whose SIZE or N can't be read
+-- the line has a form, and is no command: its SIZE or N can't be read, or is out of range
 pub record IsUnreadable (line : List ℕ) : Type 0 where
   pub form : Form
   pub fits : IsOfForm line form

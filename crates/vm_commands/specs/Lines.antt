@@ -1,4 +1,4 @@
--- The command that a line is, or its fault: what LineGrammar has as facts, as functions that compute it.
+-- The command that a line is, or its fault, as a function; LineGrammar says the same as facts.
 use Rattle.std.specs.Prelude.{ℕ, ◌==◌, ◌&&◌, ◌≡◌, ◌⊎◌, Bool, not, nat_eq, nat_le, if◌then◌else◌, List, [], ◌∷◌, length, drop, codes, bytes_eq, filter, Option, Some, None, Result, Ok, Err, IsOk, MatchResult}
 use Rattle.std.specs.Option.{option_map_or}
 use Rattle.std.specs.List.{slice_split, starts_with, list_all}

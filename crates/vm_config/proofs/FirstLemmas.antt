@@ -20,7 +20,7 @@ use Rattle.vm_config.specs.Located.{machine_at, pages_at, rates_at, choices_at, 
 use Rattle.vm_config.specs.Migration.{migrated}
 use Rattle.vm_config.specs.Outcomes.{◌>>=◌}
 use Rattle.vm_config.specs.Places.{placed, without_place, fault_in}
-use Rattle.vm_config.specs.Reading.{guest_in, guests_from, root_in, version_in}
+use Rattle.vm_config.specs.Reading.{listed_in, guests_from, root_in, version_in}
 use Rattle.vm_config.specs.Schedule.{ScheduledLine}
 use Rattle.vm_config.specs.Versions.{version_1, version_2}
 use Rattle.vm_config.proofs.PlaceLemmas.{guest_without}
@@ -141,10 +141,10 @@ record Refuses (limits : Limits) (quantum : ℕ) (ds : List Data) (earlier : Gue
   are : ds ≡ before ++ object ∷ after
   number : guest_number f.place ≡ length earlier.domains + length before
   are_read : guests_from limits quantum before earlier ≡ Ok now
-  is_refused : guest_in limits quantum object now.domains ≡ Err f.error
+  is_refused : listed_in limits quantum object now.domains ≡ Err f.error
 
 read_is : (limits : Limits) (quantum : ℕ) (d : Data) (earlier : List Domain) (read : Result Listed Fault)
-    → guest_at limits quantum d earlier ≡ read → guest_in limits quantum d earlier ≡ without_place read
+    → guest_at limits quantum d earlier ≡ read → listed_in limits quantum d earlier ≡ without_place read
 read_is limits quantum d earlier read is = sym (guest_without limits quantum d earlier (Guest (length earlier)))
     ∙ ap without_place is
 

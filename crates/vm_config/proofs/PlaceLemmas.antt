@@ -17,7 +17,7 @@ use Rattle.vm_config.specs.Located.{machine_at, pages_at, rates_at, choices_at, 
 use Rattle.vm_config.specs.Migration.{migrated}
 use Rattle.vm_config.specs.Outcomes.{◌>>=◌, IsOrMemory}
 use Rattle.vm_config.specs.Places.{placed, without_place, error_in, fault_in, IsOrLacksMemory}
-use Rattle.vm_config.specs.Reading.{machine_in, guest_in, guests_from, command_in, commands_from, keys_in, config_v1_of, config_in, config_of}
+use Rattle.vm_config.specs.Reading.{machine_in, listed_in, guests_from, command_in, commands_from, keys_in, config_v1_of, config_in, config_of}
 use Rattle.vm_config.specs.Schedule.{ScheduledLine}
 use Rattle.vm_config.specs.Versions.{version_1, version_2}
 
@@ -57,15 +57,15 @@ unfolding machine_at machine_in
 machine_without limits d = search placed_then depth 20
 
 pub guest_without : (limits : Limits) (quantum : ℕ) (d : Data) (earlier : List Domain) (guest : Part)
-    → without_place (keys_of_guest limits quantum d earlier guest) ≡ guest_in limits quantum d earlier
-unfolding keys_of_guest pages_at rates_at choices_at guest_in
+    → without_place (keys_of_guest limits quantum d earlier guest) ≡ listed_in limits quantum d earlier
+unfolding keys_of_guest pages_at rates_at choices_at listed_in
 guest_without limits quantum d earlier guest = search (placed_then, grouped_then) depth 40
 
 pub guests_without : (limits : Limits) (quantum : ℕ) (ds : List Data) (earlier : GuestList)
     → without_place (guests_at limits quantum ds earlier) ≡ guests_from limits quantum ds earlier
 guests_without limits quantum [] earlier = refl
 guests_without limits quantum (d ∷ ds) earlier =
-    located_then (guest_at limits quantum d earlier.domains) (guest_in limits quantum d earlier.domains) _ _
+    located_then (guest_at limits quantum d earlier.domains) (listed_in limits quantum d earlier.domains) _ _
     (guest_without limits quantum d earlier.domains _)
     (λ (listed : Listed). guests_without limits quantum ds (with_guest earlier listed))
 

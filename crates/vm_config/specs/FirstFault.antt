@@ -7,7 +7,7 @@ use Rattle.vm_config.specs.declared.guests.GuestList.{GuestList}
 use Rattle.vm_config.specs.declared.version.Limits.{Limits}
 use Rattle.vm_config.specs.Guests.{no_guests}
 use Rattle.vm_config.specs.Keys.{number_or, objects_in}
-use Rattle.vm_config.specs.Reading.{guest_in, guests_from, root_in, version_in}
+use Rattle.vm_config.specs.Reading.{listed_in, guests_from, root_in, version_in}
 use Rattle.vm_config.specs.Versions.{version_1, version_2}
 
 -- of these objects the one of this number has the error, after guests that are read
@@ -19,7 +19,7 @@ pub record IsFirstFaulty (limits : Limits) (quantum : ℕ) (objects : List Data)
   pub objects_are : objects ≡ before ++ object ∷ after
   pub number_is : number ≡ length before
   pub are_read : guests_from limits quantum before no_guests ≡ Ok earlier
-  pub is_refused : guest_in limits quantum object earlier.domains ≡ Err error
+  pub is_refused : listed_in limits quantum object earlier.domains ≡ Err error
 
 abbrev pub limits_of : ℕ → Limits
 limits_of version = if version == 1 then version_1 else version_2

@@ -1,4 +1,4 @@
--- Answers of which each may be the first fault of a configuration.
+-- What is read of a configuration, or its first fault.
 use Rattle.std.specs.Prelude.{◌≡◌, ◌⊎◌, Result, Ok, Err}
 use Rattle.vm_config.specs.declared.error.ConfigError.{ConfigError}
 use Rattle.vm_config.specs.declared.error.ConfigError.TheVariants.{Memory}

@@ -1,13 +1,13 @@
 -- An epoch of a guest, piece by piece, so that guests can run their epochs piece by piece beside one another (this project's profile).
 use Rattle.std.specs.Prelude.{ℕ, zero, suc, ◌+◌, nat_le, List, [], ◌++◌, if◌then◌else◌}
-use Rattle.vm_guest.specs.Epoch.{opened, closed}
+use Rattle.vm_guest.specs.Epoch.{opened_epoch, closed}
 use Rattle.vm_guest.specs.Happenings.{Happening, step_happenings}
 use Rattle.vm_guest.specs.Record.{GuestRecord}
 use Rattle.vm_guest.specs.Steps.{one_step}
 
 -- a piece of an epoch, counted from 0: how it begins, a step, or how it ends
 abbrev pub unblocked_piece : ℕ → GuestRecord → GuestRecord
-unblocked_piece zero g = opened g
+unblocked_piece zero g = opened_epoch g
 unblocked_piece (suc k) g = if nat_le (suc k) g.config.quantum then one_step g else closed g
 
 abbrev pub piece : ℕ → GuestRecord → GuestRecord

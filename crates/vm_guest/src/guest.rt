@@ -1,7 +1,7 @@
 ghost use Rattle.std.specs.Prelude.{◌≡◌, ◌+◌, ◌-◌, ◌<◌, ◌≤◌, ◌↔◌, ◌^◌, IsTrue, IsSome, IfOk, IfErr, IfSome, OnOk, OnErr, length, min, true, false};
 ghost use Rattle.std.specs.Bool.{OnTrue, OnFalse};
 ghost use Rattle.std.specs.FinSet as set;
-ghost use Rattle.vm_guest.specs.Boundary.{granted, lowered, ordered, released, revoked, serviced, spares_over, with_cap, with_frames, with_grants, with_min, with_shares, with_spare, without_spares};
+ghost use Rattle.vm_guest.specs.Boundary.{granted, lowered, ordered, released, revoked, serviced, spares_over, with_cap, with_frames, with_target_raised, with_min, with_shares, with_spare, without_spares};
 ghost use Rattle.vm_guest.specs.Frames.{GivesOut, GivesOutSome, TakesBack, TakesBackSome, with_frame};
 ghost use Rattle.vm_guest.specs.Good.{HasNothingPosted};
 ghost use Rattle.vm_guest.specs.Memory.{bytes_of};
@@ -205,7 +205,7 @@ impl Guest {
     pub fn raise_target(&mut self, count: u32)
         requires demand { count ≤ self.old.guest.allotment.demand }
         requires room { self.old.guest.allotment.target + count ≤ self.old.guest.allotment.cap }
-        ensures { self.new ≡ with_guest self.old (with_grants count self.old.guest) }
+        ensures { self.new ≡ with_guest self.old (with_target_raised count self.old.guest) }
     {
         let allotment = &mut self.parts.allotment;
         allotment.target += count;

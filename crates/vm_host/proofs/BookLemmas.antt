@@ -5,7 +5,7 @@ use Rattle.vm_admission.specs.Accounts.{IsMinimumBooked, IsReserveBooked}
 use Rattle.vm_guest.specs.Record.{GuestRecord, reserve}
 use Rattle.vm_guest.specs.View.{view_of}
 use Rattle.vm_guest.specs.declared.view.GuestView.{GuestView}
-use Rattle.vm_pool.specs.Guests.{Guests, guest_in, number_of, total}
+use Rattle.vm_pool.specs.Guests.{Guests, guest_in, of_running, total}
 use Rattle.vm_host.specs.Books.{books_of}
 use Rattle.vm_sound.specs.Books.{promised}
 use Rattle.vm_host.specs.Decisions.{viewed}
@@ -17,7 +17,7 @@ pub total_at : (number : GuestRecord → ℕ) (guests : Guests) (k : ℕ) (g : G
 total_at number [] k g here = absurd (none-some g here)
 total_at number (None ∷ guests) zero g here = absurd (none-some g here)
 total_at number (Some h ∷ guests) zero g here =
-    let same = ap (number_of number) here in
+    let same = ap (of_running number) here in
     omega (arith, same)
 total_at number (guest ∷ guests) (suc k) g here = let rest = total_at number guests k g here in omega (arith, rest)
 
@@ -34,12 +34,12 @@ booked_view w position v is =
     (omega (arith, one), omega (arith, memory, min))
 
 pub booked_reserve : (w : World) (position : ℕ) (v : GuestView) → Ok v ≡ viewed (guest_in w.pool.guests position)
-    → IsReserveBooked (books_of w) (number_of reserve (guest_in w.pool.guests position))
+    → IsReserveBooked (books_of w) (of_running reserve (guest_in w.pool.guests position))
 booked_reserve w position v is =
     let guest = viewed_some (guest_in w.pool.guests position) v is in
     let one = total_at (λ _. 1) w.pool.guests position guest.0 guest.1 in
     let reserved = total_at reserve w.pool.guests position guest.0 guest.1 in
-    let here = ap (number_of reserve) guest.1 in
+    let here = ap (of_running reserve) guest.1 in
     (omega (arith, one), omega (arith, reserved, here))
 
 -- there are few guests

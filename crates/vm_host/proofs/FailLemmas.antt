@@ -4,7 +4,7 @@ use Rattle.vm_domains.specs.Domains.{ArePaired}
 use Rattle.vm_domains.specs.Machine.{MachineConfig}
 use Rattle.vm_guest.specs.Config.{GuestConfig}
 use Rattle.vm_host.specs.declared.phase.Phase.TheVariants.{Failed}
-use Rattle.vm_host.specs.Boundary.{FailsAfterSome, opened}
+use Rattle.vm_host.specs.Boundary.{FailsAfterSome, opened_boundary}
 use Rattle.vm_host.specs.Commands.{IsAfterSome}
 use Rattle.vm_host.specs.Sound.{IsSoundWorld}
 use Rattle.vm_host.specs.World.{Conserves, FailsFrom, KeepsDomains, World, with_phase}
@@ -20,7 +20,7 @@ fails-from w mid new kept failed = record {
 }
 
 -- after the lines that it obeyed
-pub fails-some : (w mid new : World) (lines : List (List ℕ)) → IsAfterSome (policy_of w.machine) (opened w) lines mid → new ≡ with_phase mid Failed → FailsAfterSome w lines new
+pub fails-some : (w mid new : World) (lines : List (List ℕ)) → IsAfterSome (policy_of w.machine) (opened_boundary w) lines mid → new ≡ with_phase mid Failed → FailsAfterSome w lines new
 fails-some w mid new lines some failed = record { count = some.count; is = failed ∙ ap (λ v. with_phase v Failed) some.is }
 
 -- its frames still add up to the machine

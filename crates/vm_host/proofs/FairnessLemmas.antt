@@ -4,14 +4,14 @@ use Rattle.vm_commands.specs.declared.command.Command.{Command}
 use Rattle.vm_commands.specs.declared.command.Command.TheVariants.{Start, Destroy, SetMemory, SetMinimum, SetShares, ShowStatistics}
 use Rattle.vm_guest.specs.Good.{IsGood}
 use Rattle.vm_host.specs.declared.boundary.Refusal.{Refusal}
-use Rattle.vm_host.specs.Boundary.{opened, revocations, settled}
+use Rattle.vm_host.specs.Boundary.{opened_boundary, revocations, settled}
 use Rattle.vm_host.specs.Commands.{after_line}
 use Rattle.vm_host.specs.Decisions.{Admitted, decision_on_line}
 use Rattle.vm_host.specs.Fairness.{AreFairLines, IsFairBoundary, IsFairCommand, IsFairDecision}
 use Rattle.vm_host.specs.Sound.{IsSoundWorld}
 use Rattle.vm_host.specs.World.{World}
 use Rattle.vm_host.proofs.LineLemmas.{sound-line, sound-lines}
-use Rattle.vm_host.proofs.SoundLemmas.{sound-opened}
+use Rattle.vm_host.proofs.SoundLemmas.{sound-opened_boundary}
 use Rattle.vm_plan.specs.Revocation.{shortfall_of}
 use Rattle.vm_plan.proofs.ListLemmas.{revocation_list-meets}
 use Rattle.vm_pool.specs.Pool.{PoolView, EachGuest}
@@ -49,13 +49,13 @@ fair-lines policy w (line ∷ lines) sound = (
 
 pub fair-bounded : (policy : Policy) (w : World) (lines : List (List ℕ)) → IsSoundWorld w → IsFairBoundary policy w lines
 fair-bounded policy w lines sound =
-    let open_sound = sound-opened w sound in
-    let after = sound-lines policy (opened w) lines open_sound in
+    let open_sound = sound-opened_boundary w sound in
+    let after = sound-lines policy (opened_boundary w) lines open_sound in
     let found = settled policy w lines in
     let rows = rows_of found.pool.guests in
     let wanted = shortfall_of found.state found.pool.free policy.thresholds rows in
     record {
-      early = fair-lines policy (opened w) lines open_sound;
-      late = fair-boundary policy.tax wanted found.pool (revocations policy found)
+      of_lines = fair-lines policy (opened_boundary w) lines open_sound;
+      of_boundary = fair-boundary policy.tax wanted found.pool (revocations policy found)
           (revocation_list-meets policy.tax wanted rows (rows-shares found.pool.guests after.pool.good));
     }

@@ -4,7 +4,7 @@ use Rattle.vm_commands.specs.declared.command.Command.{Command}
 use Rattle.vm_commands.specs.declared.command.Command.TheVariants.{Start, Destroy, SetMemory, SetMinimum, SetShares, ShowStatistics}
 use Rattle.vm_host.specs.declared.boundary.Refusal.{Refusal}
 use Rattle.vm_host.specs.declared.phase.Phase.TheVariants.{Ready}
-use Rattle.vm_host.specs.Boundary.{past_boundary_by, finished, opened, with_state_found}
+use Rattle.vm_host.specs.Boundary.{past_boundary_by, finished, opened_boundary, with_state_found}
 use Rattle.vm_host.specs.Commands.{after_line, after_lines, decided, obeyed_by}
 use Rattle.vm_host.specs.Decisions.{Admitted, decision_on_line}
 use Rattle.vm_host.proofs.SetupLemmas.{setup-settled}
@@ -36,10 +36,10 @@ names-lines policy w (line ∷ lines) =
     names-lines policy (after_line policy w line) lines ∙ names-decided policy w (decision_on_line w line)
 
 pub machine-bounded : (policy : Policy) (w : World) (lines : List (List ℕ)) → (past_boundary_by policy w lines).machine ≡ w.machine
-machine-bounded policy w lines = machine-lines policy (opened w) lines
+machine-bounded policy w lines = machine-lines policy (opened_boundary w) lines
 
 pub names-bounded : (policy : Policy) (w : World) (lines : List (List ℕ)) → (past_boundary_by policy w lines).names ≡ w.names
-names-bounded policy w lines = names-lines policy (opened w) lines
+names-bounded policy w lines = names-lines policy (opened_boundary w) lines
 
 configs-obeyed : (tax : Tax) (pool : PoolView) (position : ℕ) (command : Command) → (obeyed_by tax pool position command).configs ≡ pool.configs
 configs-obeyed tax pool position (Start domain) =
@@ -66,7 +66,7 @@ configs-finished policy w =
     (setup-settled policy state (blocks_in state) w.pool).configs
 
 pub configs-bounded : (policy : Policy) (w : World) (lines : List (List ℕ)) → (past_boundary_by policy w lines).pool.configs ≡ w.pool.configs
-configs-bounded policy w lines = configs-finished policy (after_lines policy (opened w) lines) ∙ configs-lines policy (opened w) lines
+configs-bounded policy w lines = configs-finished policy (after_lines policy (opened_boundary w) lines) ∙ configs-lines policy (opened_boundary w) lines
 
 phase-decided : (policy : Policy) (w : World) (decision : Result Admitted Refusal) → (decided policy w decision).phase ≡ w.phase
 phase-decided policy w (Ok admitted) = refl
@@ -79,4 +79,4 @@ phase-lines policy w (line ∷ lines) =
 
 -- an epoch may follow
 pub ready-bounded : (policy : Policy) (w : World) (lines : List (List ℕ)) → (past_boundary_by policy w lines).phase ≡ Ready
-ready-bounded policy w lines = phase-lines policy (opened w) lines
+ready-bounded policy w lines = phase-lines policy (opened_boundary w) lines

@@ -6,13 +6,13 @@ use Rattle.vm_commands.specs.LineGrammar.{AsksFor, Form, FormDestroy, FormMemory
 use Rattle.vm_commands.specs.Lines.{command_of}
 use Rattle.vm_commands.proofs.LineLaws.{IsLine-from_read}
 use Rattle.vm_host.specs.declared.boundary.Refusal.{Refusal}
-use Rattle.vm_host.specs.Boundary.{past_boundary_by, opened}
+use Rattle.vm_host.specs.Boundary.{past_boundary_by, opened_boundary}
 use Rattle.vm_host.specs.Commands.{after_line, after_lines, decided}
 use Rattle.vm_host.specs.Decisions.{◌>>=◌, Admitted, admission_of, decision_on, readable}
 use Rattle.vm_host.specs.Obeying.{IsInRange}
 use Rattle.vm_host.specs.Sound.{IsSoundWorld}
 use Rattle.vm_host.specs.World.{World}
-use Rattle.vm_host.proofs.SoundLemmas.{obeys, sound-finished, sound-opened}
+use Rattle.vm_host.proofs.SoundLemmas.{obeys, sound-finished, sound-opened_boundary}
 use Rattle.vm_reclaim.specs.Policy.{Policy}
 
 -- the number of a command that was read is one that a line can have
@@ -51,4 +51,4 @@ sound-lines policy w (line ∷ lines) sound = sound-lines policy (after_line pol
 
 -- a boundary leaves a sound host
 pub bounded-sound : (policy : Policy) (w : World) (lines : List (List ℕ)) → IsSoundWorld w → IsSoundWorld (past_boundary_by policy w lines)
-bounded-sound policy w lines sound = sound-finished policy (after_lines policy (opened w) lines) (sound-lines policy (opened w) lines (sound-opened w sound))
+bounded-sound policy w lines sound = sound-finished policy (after_lines policy (opened_boundary w) lines) (sound-lines policy (opened_boundary w) lines (sound-opened_boundary w sound))

@@ -12,7 +12,7 @@ use Rattle.vm_plan.specs.State.{next_state_of}
 use Rattle.vm_host.specs.declared.boundary.Refusal.{Refusal}
 use Rattle.vm_reclaim.specs.declared.room.Raise.{Raise}
 use Rattle.vm_host.specs.Answers.{AnswerValue}
-use Rattle.vm_host.specs.Boundary.{past_boundary_by, boundary_by, finished, grants, opened, page_counts, revocations, boundary_after_lines, with_grants, with_orders, with_paging, with_revocations, with_state_found}
+use Rattle.vm_host.specs.Boundary.{past_boundary_by, done_in, finished, grants, opened_boundary, page_counts, revocations, done_after_lines, with_grants, with_orders, with_paging, with_revocations, with_state_found}
 use Rattle.vm_reclaim.specs.Reclaim.{blocked_from, paged_from}
 use Rattle.vm_host.specs.Commands.{after_line, after_lines, answer_to, answers_to, decided, obeyed_by, outcome_of, revocations_by}
 use Rattle.vm_reclaim.specs.Room.{lacking_at, needed_to_start, raise_to}
@@ -122,7 +122,7 @@ module _ (p q : Policy) (alike : DecideAlike p q) where
       ap (λ v. with_orders (with_grants p v)) (paged-alike w)
       ∙ ap with_orders (with_grants-alike (with_paging q (with_revocations q (with_state_found q w))))
 
-  told-alike : (w : World) (answers : List AnswerValue) → boundary_after_lines p w answers ≡ boundary_after_lines q w answers
+  told-alike : (w : World) (answers : List AnswerValue) → done_after_lines p w answers ≡ done_after_lines q w answers
   told-alike w answers =
       let found = with_state_found q w in
       let left = with_revocations q found in
@@ -140,9 +140,9 @@ module _ (p q : Policy) (alike : DecideAlike p q) where
 
   pub bounded-alike : (w : World) (lines : List (List ℕ)) → past_boundary_by p w lines ≡ past_boundary_by q w lines
   bounded-alike w lines =
-      ap (finished p) (after_lines-alike (opened w) lines) ∙ finished-alike (after_lines q (opened w) lines)
+      ap (finished p) (after_lines-alike (opened_boundary w) lines) ∙ finished-alike (after_lines q (opened_boundary w) lines)
 
-  pub boundary-alike : (w : World) (lines : List (List ℕ)) → boundary_by p w lines ≡ boundary_by q w lines
+  pub boundary-alike : (w : World) (lines : List (List ℕ)) → done_in p w lines ≡ done_in q w lines
   boundary-alike w lines =
-      (λ i. boundary_after_lines p (after_lines-alike (opened w) lines i) (answers-alike (opened w) lines i))
-      ∙ told-alike (after_lines q (opened w) lines) (answers_to q (opened w) lines)
+      (λ i. done_after_lines p (after_lines-alike (opened_boundary w) lines i) (answers-alike (opened_boundary w) lines i))
+      ∙ told-alike (after_lines q (opened_boundary w) lines) (answers_to q (opened_boundary w) lines)

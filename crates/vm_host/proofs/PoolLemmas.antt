@@ -150,12 +150,12 @@ keeps-granted machine policy state pool whole =
       served = served-all_granted moves pool;
     }
 
-keeps-orders : (machine : MachineConfig) (wait : Bool) (pool : PoolView) → IsWhole pool → Keeps machine pool (with_orders wait pool)
-keeps-orders machine wait pool whole = record {
+keeps-orders : (machine : MachineConfig) (blocks : Bool) (pool : PoolView) → IsWhole pool → Keeps machine pool (with_orders blocks pool)
+keeps-orders machine blocks pool whole = record {
   setup = record { frames = refl; overhead = refl; configs = refl };
-  whole = record { sound = sound-orders wait pool whole.sound; adds_up = conserves-orders wait pool whole.adds_up };
-  booked = books-orders machine wait pool;
-  served = served-orders wait pool;
+  whole = record { sound = sound-orders blocks pool whole.sound; adds_up = conserves-orders blocks pool whole.adds_up };
+  booked = books-orders machine blocks pool;
+  served = served-orders blocks pool;
 }
 
 -- the frames once targets fell, guests gave up frames, targets rose, and the guests have their orders

@@ -9,7 +9,7 @@ use Rattle.vm_guest.specs.Record.{GuestRecord}
 use Rattle.vm_plan.specs.Revocation.{revocation_list}
 use Rattle.vm_plan.specs.Row.{Row}
 use Rattle.vm_pool.specs.Changes.{lacking, taken_at}
-use Rattle.vm_pool.specs.Guests.{Guests, each_released, guest_in, number_of, sum_of}
+use Rattle.vm_pool.specs.Guests.{Guests, each_released, guest_in, of_running, sum_of}
 use Rattle.vm_pool.specs.Pool.{PoolView, EachGuest}
 use Rattle.vm_reclaim.specs.declared.room.Raise.{Raise}
 use Rattle.vm_reclaim.specs.Policy.{Policy, policy_of}
@@ -37,14 +37,14 @@ none-released short [] [] is = refl
 none-released short (guest ∷ guests) [] is = refl
 none-released short [] (other ∷ seen) is = refl
 none-released short (guest ∷ guests) (other ∷ seen) is =
-    let none : min short (number_of surplus other) ≡ 0 = omega (arith, is) in
-    let rest = none-released (short - number_of surplus other) guests seen (omega (arith, is)) in
+    let none : min short (of_running surplus other) ≡ 0 = omega (arith, is) in
+    let rest = none-released (short - of_running surplus other) guests seen (omega (arith, is)) in
     λ i. (ap (λ n. option_map (released n) guest) none ∙ same-released guest) i ∷ rest i
 
 nothing-given : (short : ℕ) (seen : Guests) → short ≡ 0 → sum_of (surplus_shares short seen) ≡ 0
 nothing-given short [] is = refl
 nothing-given short (guest ∷ seen) is =
-    let rest = nothing-given (short - number_of surplus guest) seen (omega (arith, is)) in
+    let rest = nothing-given (short - of_running surplus guest) seen (omega (arith, is)) in
     omega (arith, is, rest)
 
 none-taken : (tax : Tax) (rows : List Row) → revocation_list tax 0 rows ≡ []

@@ -28,14 +28,14 @@ setup-paged policy state pool = record { frames = refl; overhead = refl; configs
 pub setup-granted : (policy : Policy) (state : State) (pool : PoolView) → HasSameSetup pool (pool_granted policy state pool)
 setup-granted policy state pool = setup-all_granted (grants_in policy state pool) pool
 
-pub setup-orders : (wait : Bool) (pool : PoolView) → HasSameSetup pool (with_orders wait pool)
-setup-orders wait pool = record { frames = refl; overhead = refl; configs = refl }
+pub setup-orders : (blocks : Bool) (pool : PoolView) → HasSameSetup pool (with_orders blocks pool)
+setup-orders blocks pool = record { frames = refl; overhead = refl; configs = refl }
 
 -- all that follows the lines
-pub setup-settled : (policy : Policy) (state : State) (wait : Bool) (pool : PoolView) → HasSameSetup pool (with_orders wait (pool_settled policy state pool))
-setup-settled policy state wait pool =
+pub setup-settled : (policy : Policy) (state : State) (blocks : Bool) (pool : PoolView) → HasSameSetup pool (with_orders blocks (pool_settled policy state pool))
+setup-settled policy state blocks pool =
     let fallen = pool_revoked policy state pool in
     let paged = pool_paged policy state fallen in
     let settled = pool_settled policy state pool in
     let first = setup-then pool fallen paged (setup-revoked policy state pool) (setup-paged policy state fallen) in
-    setup-then pool settled (with_orders wait settled) (setup-then pool paged settled first (setup-granted policy state paged)) (setup-orders wait settled)
+    setup-then pool settled (with_orders blocks settled) (setup-then pool paged settled first (setup-granted policy state paged)) (setup-orders blocks settled)

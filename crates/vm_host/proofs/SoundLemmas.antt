@@ -12,7 +12,7 @@ use Rattle.vm_guest.specs.Record.{GuestRecord, reserve}
 use Rattle.vm_plan.specs.declared.state.State.{State}
 use Rattle.vm_host.specs.declared.phase.Phase.{Phase}
 use Rattle.vm_host.specs.declared.phase.Phase.TheVariants.{Waiting, Ready, Failed}
-use Rattle.vm_host.specs.Boundary.{finished, opened}
+use Rattle.vm_host.specs.Boundary.{finished, opened_boundary}
 use Rattle.vm_host.specs.Books.{books_of}
 use Rattle.vm_host.specs.Commands.{obeyed_by}
 use Rattle.vm_host.specs.Decisions.{IsBooked, booked_minimum, booked_start, decision_on}
@@ -24,7 +24,7 @@ use Rattle.vm_host.proofs.DecisionLemmas.{IsCovered, caps-at, destroys-at, raise
 use Rattle.vm_host.proofs.PoolLemmas.{IsWhole, Keeps, keeps-finished, keeps-room, keeps-serviced, keeps-spares, keeps-then}
 use Rattle.vm_plan.specs.State.{next_state_of}
 use Rattle.vm_pool.specs.Changes.{after_epoch, all_changed, changed, frames_to_start, started_at, stopped_at, with_min_at, with_spares_back}
-use Rattle.vm_pool.specs.Guests.{number_of, total}
+use Rattle.vm_pool.specs.Guests.{of_running, total}
 use Rattle.vm_pool.specs.Pool.{PoolView, EachGuest, guest_at}
 use Rattle.vm_guest.specs.Boundary.{serviced}
 use Rattle.vm_reclaim.specs.declared.room.Raise.{Raise}
@@ -72,16 +72,16 @@ still-covered w pool sound same = subst IsCovered (sym same) (record { frames = 
 
 -- ---- before and after the lines
 
-pub sound-opened : (w : World) → IsSoundWorld w → IsSoundWorld (opened w)
-sound-opened w sound =
+pub sound-opened_boundary : (w : World) → IsSoundWorld w → IsSoundWorld (opened_boundary w)
+sound-opened_boundary w sound =
     let first = keeps-serviced w.machine w.pool (whole-of w sound) in
     let second = keeps-spares w.machine (all_changed serviced w.pool) first.whole in
     let both = keeps-then w.machine w.pool (all_changed serviced w.pool) (with_spares_back (all_changed serviced w.pool)) first second in
-    world-of w (opened w).pool w.state Ready sound both.setup both.whole (still-covered w (opened w).pool sound both.booked)
+    world-of w (opened_boundary w).pool w.state Ready sound both.setup both.whole (still-covered w (opened_boundary w).pool sound both.booked)
     (λ _. second.served (served-serviced w.pool))
 
-pub books-opened : (w : World) → IsSoundWorld w → books_of (opened w) ≡ books_of w
-books-opened w sound =
+pub books-opened_boundary : (w : World) → IsSoundWorld w → books_of (opened_boundary w) ≡ books_of w
+books-opened_boundary w sound =
     let first = keeps-serviced w.machine w.pool (whole-of w sound) in
     let second = keeps-spares w.machine (all_changed serviced w.pool) first.whole in
     second.booked ∙ first.booked
@@ -214,7 +214,7 @@ obeys-minimum tax w domain least position sound some is =
     let promises = promised-are w sound in
     let frames_are = sound.frames_are in
     let fits = at.covers.frames in
-    let min = ap (number_of (λ (h : GuestRecord). h.allotment.min)) at.here in
+    let min = ap (of_running (λ (h : GuestRecord). h.allotment.min)) at.here in
     omega (arith, promises, frames_are, fits, min) in
     let enough = room_to_raise tax pool position least sound.pool whole.adds_up covers in
     let made = room_made tax (Some raise) needed pool in

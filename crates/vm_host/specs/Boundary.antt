@@ -1,4 +1,4 @@
--- What a boundary, which is what comes before an epoch, does to a host, and what it tells. In this order the devices are served
+-- A boundary comes before each epoch: what it does to a host, and what a report has of it. In this order the devices are served
 -- (OASIS VIRTIO 1.2, section 5.5.6), the spares above the targets come back, the lines are obeyed, the state is found, targets fall
 -- (revocation), guests give up frames (paging), targets rise (grants), and the guests get their orders (Waldspurger, OSDI 2002,
 -- section 6.3).
@@ -17,16 +17,16 @@ use Rattle.vm_host.specs.World.{World, with_phase, with_pool}
 -- ---- before the lines
 
 -- the host as the lines of a boundary find it: each device is served, and the spares above the targets are back
-abbrev pub opened : World → World
-opened w = record w { pool = with_spares_back (all_changed serviced w.pool); phase = Ready }
+abbrev pub opened_boundary : World → World
+opened_boundary w = record w { pool = with_spares_back (all_changed serviced w.pool); phase = Ready }
 
 -- ---- after the lines
 
--- the state that the free frames name
+-- the state that follows the old one at these free frames
 abbrev pub with_state_found : Policy → World → World
 with_state_found policy w = record w { state = next_state_of w.state w.pool.free policy.thresholds }
 
--- the same of a host
+-- the revocations of a host whose state is found
 abbrev pub revocations : Policy → World → List ℕ
 revocations policy w = revocations_in policy w.state w.pool
 
@@ -60,11 +60,11 @@ finished policy w =
 
 -- the host once the lines are obeyed and the state is found
 abbrev pub settled : Policy → World → List (List ℕ) → World
-settled policy w lines = with_state_found policy (after_lines policy (opened w) lines)
+settled policy w lines = with_state_found policy (after_lines policy (opened_boundary w) lines)
 
 -- the host after a boundary with these lines, by a policy
 abbrev pub past_boundary_by : Policy → World → List (List ℕ) → World
-past_boundary_by policy w lines = finished policy (after_lines policy (opened w) lines)
+past_boundary_by policy w lines = finished policy (after_lines policy (opened_boundary w) lines)
 
 -- by that of its machine
 abbrev pub past_boundary : World → List (List ℕ) → World
@@ -76,13 +76,13 @@ past_boundary w lines = past_boundary_by (policy_of w.machine) w lines
 -- however many, and nothing else was done
 pub record FailsAfterSome (old : World) (lines : List (List ℕ)) (new : World) : Type 0 where
   pub count : ℕ
-  pub is : new ≡ with_phase (after_lines (policy_of old.machine) (opened old) (take count lines)) Failed
+  pub is : new ≡ with_phase (after_lines (policy_of old.machine) (opened_boundary old) (take count lines)) Failed
 
--- ---- what is told
+-- ---- what it did
 
--- what is told of a host that its lines left, with these answers: the free frames are those that the state was found from
-abbrev pub boundary_after_lines : Policy → World → List AnswerValue → Boundary
-boundary_after_lines policy w answers =
+-- what was done to the host that its lines left, with the answers to these: the free frames are those that the state was found from
+abbrev pub done_after_lines : Policy → World → List AnswerValue → Boundary
+done_after_lines policy w answers =
     let settled_world = with_state_found policy w in
     let revoked_world = with_revocations policy settled_world in
     let paged_world = with_paging policy revoked_world in
@@ -96,9 +96,9 @@ boundary_after_lines policy w answers =
       blocked = blocked_from 0 (finished policy w).pool.guests;
     }
 
--- what the boundary tells
-abbrev pub boundary_by : Policy → World → List (List ℕ) → Boundary
-boundary_by policy w lines = boundary_after_lines policy (after_lines policy (opened w) lines) (answers_to policy (opened w) lines)
+-- what the boundary did, for the report
+abbrev pub done_in : Policy → World → List (List ℕ) → Boundary
+done_in policy w lines = done_after_lines policy (after_lines policy (opened_boundary w) lines) (answers_to policy (opened_boundary w) lines)
 
 abbrev pub boundary_of : World → List (List ℕ) → Boundary
-boundary_of w lines = boundary_by (policy_of w.machine) w lines
+boundary_of w lines = done_in (policy_of w.machine) w lines

@@ -32,7 +32,7 @@ revocations_by tax pool position (ShowStatistics domain) = []
 
 -- ---- effects
 
--- the frames after a command
+-- the pool after a command
 abbrev pub obeyed_by : Tax → PoolView → ℕ → Command → PoolView
 obeyed_by tax pool position (Start domain) = started_at (room_made tax None (needed_to_start pool position) pool) position
 obeyed_by tax pool position (Destroy domain) = stopped_at pool position

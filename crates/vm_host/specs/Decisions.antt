@@ -124,7 +124,7 @@ decision_on w (SetMemory domain cap) = do
 decision_on w (SetMinimum domain least) = do
   position ← position_in w domain
   g ← running_at w position
-  bounded ← if_minimum g least position
+  within ← if_minimum g least position
   if_covered (booked_minimum (books_of w) g least) position
 decision_on w (SetShares domain shares) = do
   position ← position_in w domain

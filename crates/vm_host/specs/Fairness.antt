@@ -5,7 +5,7 @@ use Rattle.vm_commands.specs.declared.command.Command.{Command}
 use Rattle.vm_commands.specs.declared.command.Command.TheVariants.{Start, Destroy, SetMemory, SetMinimum, SetShares, ShowStatistics}
 use Rattle.vm_guest.specs.Boundary.{revoked}
 use Rattle.vm_host.specs.declared.boundary.Refusal.{Refusal}
-use Rattle.vm_host.specs.Boundary.{opened, revocations, settled}
+use Rattle.vm_host.specs.Boundary.{opened_boundary, revocations, settled}
 use Rattle.vm_host.specs.Commands.{after_line}
 use Rattle.vm_reclaim.specs.Room.{lacking_at, needed_to_start, raise_to}
 use Rattle.vm_host.specs.Decisions.{Admitted, decision_on_line}
@@ -17,6 +17,7 @@ use Rattle.vm_host.specs.World.{World}
 
 -- ---- the revocations that a command needs
 
+-- what a command takes for room, it takes fairly
 abbrev pub IsFairCommand : Policy → PoolView → ℕ → Command → Type 0
 IsFairCommand policy pool position (Start domain) = TakesFairly policy None (needed_to_start pool position) pool
 IsFairCommand policy pool position (SetMinimum domain least) =
@@ -26,10 +27,12 @@ IsFairCommand policy pool position (SetMemory domain cap) = ⊤
 IsFairCommand policy pool position (SetShares domain shares) = ⊤
 IsFairCommand policy pool position (ShowStatistics domain) = ⊤
 
+-- what an obeyed command takes for room, it takes fairly; a refused one takes nothing
 abbrev pub IsFairDecision : Policy → PoolView → Result Admitted Refusal → Type 0
 IsFairDecision policy pool (Ok admitted) = IsFairCommand policy pool admitted.position admitted.command
 IsFairDecision policy pool (Err refusal) = ⊤
 
+-- what each line takes for room, it takes fairly, from the host that the lines before it left
 abbrev pub AreFairLines : Policy → World → List (List ℕ) → Type 0
 AreFairLines policy w [] = ⊤
 AreFairLines policy w (line ∷ lines) =
@@ -37,7 +40,7 @@ AreFairLines policy w (line ∷ lines) =
 
 -- ---- a boundary
 
--- the revocations that its answers tell, and those that it tells itself
+-- the revocations of its answers, and its own
 pub record IsFairBoundary (policy : Policy) (w : World) (lines : List (List ℕ)) : Type 0 where
-  pub early : AreFairLines policy (opened w) lines
-  pub late : TakesFromCheapest policy.tax (changed revoked) (settled policy w lines).pool (revocations policy (settled policy w lines))
+  pub of_lines : AreFairLines policy (opened_boundary w) lines
+  pub of_boundary : TakesFromCheapest policy.tax (changed revoked) (settled policy w lines).pool (revocations policy (settled policy w lines))

@@ -15,7 +15,7 @@ use Rattle.vm_sound.specs.Written.{History, happenings_at, with_happenings}
 abbrev pub history_after_service : Guests → History → History
 history_after_service guests h = with_happenings service_happenings guests h
 
--- a guest that starts is told of it; no other command is a happening
+-- a start joins the happenings of its guest; no other command is a happening
 abbrev pub history_of_command : History → ℕ → Command → History
 history_of_command h position (Start domain) = slice_set h position (happenings_at h position ++ Started ∷ [])
 history_of_command h position (Destroy domain) = h

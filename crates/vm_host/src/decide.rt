@@ -4,7 +4,7 @@ ghost use Rattle.vm_admission.specs.Accounts.{with_guest, with_minimum, without_
 ghost use Rattle.vm_commands.specs.declared.command.Command.TheVariants.{Destroy, SetMemory, SetMinimum, ShowStatistics, Start};
 ghost use Rattle.vm_guest.specs.Good.{IsGood};
 ghost use Rattle.vm_guest.specs.Record.{reserve};
-ghost use Rattle.vm_pool.specs.Guests.{number_of};
+ghost use Rattle.vm_pool.specs.Guests.{of_running};
 ghost use Rattle.vm_pool.specs.Pool.{guest_at};
 ghost use Rattle.vm_host.specs.Books.{books_of, if_covered};
 ghost use Rattle.vm_host.specs.Decisions.{booked_minimum, booked_start, decision_on, if_stopped, IsBooked, needed_by, position_in, refusal_by, viewed};
@@ -47,7 +47,7 @@ fn running_at(pool: &Pool, position: usize) -> Result<GuestView, Refusal>
 
 // The swap that is reserved for the guest at a position, if one runs there.
 fn reserve_at(pool: &Pool, position: usize) -> u32
-    ensures { result ≡ number_of reserve (guest_at pool.now position) }
+    ensures { result ≡ of_running reserve (guest_at pool.now position) }
 {
     match pool.reserve(position) {
         Some(reserve) => reserve,

@@ -1,6 +1,6 @@
 // What a boundary does before its lines and after them.
 ghost use Rattle.std.specs.Prelude.{◌≡◌, ◌<◌, ◌⊎◌, IfOk, OnErr, OnOk, length, map, string_bytes};
-ghost use Rattle.vm_host.specs.Boundary.{boundary_of, past_boundary, finished, opened, boundary_after_lines};
+ghost use Rattle.vm_host.specs.Boundary.{boundary_of, past_boundary, finished, opened_boundary, done_after_lines};
 ghost use Rattle.vm_host.specs.Books.{books_of};
 ghost use Rattle.vm_host.specs.Commands.{IsAfterSome};
 ghost use Rattle.vm_host.specs.Parts.{world_of};
@@ -19,7 +19,7 @@ use vm_reclaim::{blocks_in, carry_out, numbers_of, plan_boundary};
 
 // What comes before the lines: each device is served, so that an epoch may follow, and the spares above the targets come back.
 fn open(parts: &mut Parts)
-    ensures { world_of parts.new ≡ opened (world_of parts.old) }
+    ensures { world_of parts.new ≡ opened_boundary (world_of parts.old) }
 {
     parts.pool.serve_all();
     parts.pool.spares_back_all();
@@ -30,7 +30,7 @@ fn open(parts: &mut Parts)
 fn settle(alloc: Global, parts: &mut Parts, answers: Vec<Answer>) -> Result<Boundary, AllocError>
     requires { IsSoundWorld (world_of parts.old) }
     ensures done { OnOk result (world_of parts.new ≡ finished (policy_of parts.old.spec) (world_of parts.old)) }
-    ensures told { IfOk result (λ told. told ≡ boundary_after_lines (policy_of parts.old.spec) (world_of parts.old) answers.items) }
+    ensures told { IfOk result (λ told. told ≡ done_after_lines (policy_of parts.old.spec) (world_of parts.old) answers.items) }
     ensures kept { KeepsDomains (world_of parts.old) (world_of parts.new) }
     ensures unchanged { OnErr result (world_of parts.new ≡ world_of parts.old) }
     ensures wanted { OnErr result (0 < length parts.old.pool.guests) }
@@ -65,7 +65,7 @@ pub(crate) fn bound(
     ensures done { OnOk result (world_of parts.new ≡ past_boundary (world_of parts.old) (map string_bytes lines.now)) }
     ensures told { IfOk result (λ told. told ≡ boundary_of (world_of parts.old) (map string_bytes lines.now)) }
     ensures booked { OnOk result (books.new ≡ books_of (world_of parts.new)) }
-    ensures memory { OnErr result (IsAfterSome (policy_of parts.old.spec) (opened (world_of parts.old)) (map string_bytes lines.now) (world_of parts.new)) }
+    ensures memory { OnErr result (IsAfterSome (policy_of parts.old.spec) (opened_boundary (world_of parts.old)) (map string_bytes lines.now) (world_of parts.new)) }
     ensures wanted { OnErr result ((0 < length parts.old.names) ⊎ (0 < length lines.now)) }
     ensures kept { KeepsDomains (world_of parts.old) (world_of parts.new) }
 {

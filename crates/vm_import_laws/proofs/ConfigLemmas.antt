@@ -8,7 +8,7 @@ use Rattle.serde_json.specs.Read.{read}
 use Rattle.vm_config.specs.Guests.{Listed}
 use Rattle.vm_config.specs.Keys.{is_text, list_of, text_of, texts_or_none}
 use Rattle.vm_config.specs.Names.{is_name}
-use Rattle.vm_config.specs.Reading.{config_of, guest_in, keys_in, machine_in, steps_from}
+use Rattle.vm_config.specs.Reading.{config_of, listed_in, keys_in, machine_in, steps_from}
 use Rattle.vm_config.specs.Versions.{version_2}
 use Rattle.vm_config.specs.declared.config.Config.{Config}
 use Rattle.vm_import.specs.Guests.{epochs_of}
@@ -81,8 +81,8 @@ module _ (settings : Settings) (texts : List (List ℕ)) (steps : List Action) (
     autostart = true;
   }
 
-  guest-read : guest_in version_2 n.quantum (guest_data settings.name texts n) [] ≡ Ok listed
-  unfolding guest_in version_2
+  guest-read : listed_in version_2 n.quantum (guest_data settings.name texts n) [] ≡ Ok listed
+  unfolding listed_in version_2
   guest-read =
       rw (
         named,

@@ -30,7 +30,7 @@ is_in Absent = false
 is_in (In frame) = true
 is_in Out = false
 
--- the same, of a place alone
+-- whether a place is in a frame
 abbrev pub is_in_place : Place → Bool
 is_in_place IsAbsentPlace = false
 is_in_place IsInPlace = true

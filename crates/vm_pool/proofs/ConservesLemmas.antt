@@ -6,7 +6,7 @@ use Rattle.vm_guest.specs.Boundary.{granted, released, without_spares}
 use Rattle.vm_guest.specs.Config.{GuestConfig}
 use Rattle.vm_guest.specs.Record.{GuestRecord}
 use Rattle.vm_guest.specs.Start.{started}
-use Rattle.vm_pool.specs.Changes.{all_changed, changed, freed, frames_to_grant, frames_to_start, granted_at, lacking, released_at, spent, started_at, stopped_at, surplus_of, total_spares, with_min_at, with_min_held, with_released, with_spares_back, with_started, AreReleasable}
+use Rattle.vm_pool.specs.Changes.{all_changed, changed, with_free, frames_to_grant, frames_to_start, granted_at, lacking, released_at, spent, started_at, stopped_at, surplus_of, total_spares, with_min_at, with_min_held, with_released, with_spares_back, with_started, AreReleasable}
 use Rattle.vm_pool.specs.Guests.{Guests, each_released, running, sum_of}
 use Rattle.vm_pool.specs.Pool.{PoolView, first_pool, guest_at, held_by, one_if_runs, running_count, total_held, Conserves}
 use Rattle.vm_pool.proofs.MoveLemmas.{held-granted, held-min, held-released, held-spares}
@@ -41,8 +41,8 @@ runs-changed change [] i = refl
 runs-changed change (guest ∷ guests) zero = ap (λ n. n + running_count guests) (runs-same change guest)
 runs-changed change (guest ∷ guests) (suc i) = ap (λ n. one_if_runs guest + n) (runs-changed change guests i)
 
-pub conserves-freed : (change : GuestRecord → GuestRecord) (count : ℕ) (p : PoolView) (i : ℕ) → held_by (option_map change (guest_at p i)) + count ≡ held_by (guest_at p i) → Conserves p → Conserves (freed change count p i)
-conserves-freed change count p i fewer all =
+pub conserves-with_free : (change : GuestRecord → GuestRecord) (count : ℕ) (p : PoolView) (i : ℕ) → held_by (option_map change (guest_at p i)) + count ≡ held_by (guest_at p i) → Conserves p → Conserves (with_free change count p i)
+conserves-with_free change count p i fewer all =
     let held = held-changed change p.guests i in
     let aside = ap (λ n. p.overhead * n) (runs-changed change p.guests i) in
     omega (arith, held, aside, fewer, all)
@@ -91,7 +91,7 @@ conserves-spares p all =
     omega (arith, held, aside, all)
 
 pub conserves-released : (count : ℕ) (p : PoolView) (i : ℕ) → count ≤ surplus_of (guest_at p i) → Conserves p → Conserves (released_at count p i)
-conserves-released count p i few all = conserves-freed (released count) count p i (held-released count (guest_at p i) few) all
+conserves-released count p i few all = conserves-with_free (released count) count p i (held-released count (guest_at p i) few) all
 
 -- each guest gives up frames
 held-each_released : (counts : List ℕ) (guests : Guests) → length counts ≡ length guests → AreReleasable counts guests

@@ -103,6 +103,6 @@ served-set_min least p i served = each-changed HasNothingPosted (with_min_held l
 pub served-order : (blocked : Bool) (p : PoolView) (i : ℕ) → EachGuest HasNothingPosted p → EachGuest HasNothingPosted (changed (λ g. ordered g blocked) p i)
 served-order blocked p i served = each-changed HasNothingPosted (λ g. ordered g blocked) p i (λ g nothing. ordered-nothing_posted g blocked nothing) served
 
-pub served-order_all : (wait : Bool) (p : PoolView) → EachGuest HasNothingPosted p → EachGuest HasNothingPosted (with_orders wait p)
-served-order_all wait p served =
-    each-all HasNothingPosted (λ g. ordered g (blocked_above wait g)) p (λ g nothing. ordered-nothing_posted g (blocked_above wait g) nothing) served
+pub served-order_all : (blocks : Bool) (p : PoolView) → EachGuest HasNothingPosted p → EachGuest HasNothingPosted (with_orders blocks p)
+served-order_all blocks p served =
+    each-all HasNothingPosted (λ g. ordered g (blocked_above blocks g)) p (λ g nothing. ordered-nothing_posted g (blocked_above blocks g) nothing) served

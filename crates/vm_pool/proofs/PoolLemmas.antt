@@ -27,7 +27,7 @@ use Rattle.vm_guest.specs.Start.{started}
 use Rattle.vm_pool.specs.declared.pool.Pool.TheInside.{Inside}
 use Rattle.vm_pool.specs.declared.slot.Slot.{Slot}
 use Rattle.vm_pool.specs.declared.slot.Slot.TheVariants.{Stopped, Running, Away}
-use Rattle.vm_pool.specs.Changes.{after_epoch, all_changed, frames_to_start, changed, freed, spares_of, spent, started_at, stopped_at, total_spares, with_spares_back, with_started}
+use Rattle.vm_pool.specs.Changes.{after_epoch, all_changed, frames_to_start, changed, with_free, spares_of, spent, started_at, stopped_at, total_spares, with_spares_back, with_started}
 use Rattle.vm_pool.specs.Moves.{once_if, Moves, MovesAside}
 use Rattle.vm_pool.specs.Guests.{running}
 use Rattle.vm_pool.specs.Pool.{PoolView, first_pool, guest_at, held_by, most_aside, one_if_runs, running_count, total_held, Conserves, HasTarget, IsRoomAt}
@@ -213,11 +213,11 @@ view-changed p i was slot change m =
     ∙ ap (λ g. record (pool_of p) { guests = slice_set (pool_of p).guests i (option_map change g) }) (sym (guest_at-slot p i was m.there m.is))
 
 -- a call that frees frames
-pub view-freed : (p : Inside) (i : ℕ) (was slot : Slot) (after : MachineView) (change : GuestRecord → GuestRecord) (count : ℕ) → IsPool p
+pub view-with_free : (p : Inside) (i : ℕ) (was slot : Slot) (after : MachineView) (change : GuestRecord → GuestRecord) (count : ℕ) → IsPool p
     → MovesAt p i was slot after after p.aside.items (option_map change (guest_in was))
     → held_by (option_map change (guest_in was)) + count ≡ held_by (guest_in was)
-    → pool_of (moved p i slot after p.aside) ≡ freed change count (pool_of p) i
-view-freed p i was slot after change count good m fewer =
+    → pool_of (moved p i slot after p.aside) ≡ with_free change count (pool_of p) i
+view-with_free p i was slot after change count good m fewer =
     let moves = m.slot_moves.count in
     let held = ap held_by m.slot_moves.guest in
     let within = good.within in
@@ -331,10 +331,10 @@ pub guest-here : (p : Inside) (v : PoolView) (i : ℕ) (was : Slot) → pool_of 
 guest-here p v i was is there here = ap (λ (w : PoolView). guest_at w i) (sym is) ∙ guest_at-slot p i was there here
 
 -- a guest gives frames back
-pub pool-freed : (p : Inside) (i : ℕ) (was slot : Slot) (after : MachineView) (change : GuestRecord → GuestRecord) (count : ℕ) → IsPool p → i < length p.slots.items → was ≡ get_or p.slots.items i was
+pub pool-with_free : (p : Inside) (i : ℕ) (was slot : Slot) (after : MachineView) (change : GuestRecord → GuestRecord) (count : ℕ) → IsPool p → i < length p.slots.items → was ≡ get_or p.slots.items i was
     → Moves (option_map change (guest_in was)) was slot p.machine after → held_by (option_map change (guest_in was)) + count ≡ held_by (guest_in was)
     → MovesAt p i was slot after after p.aside.items (option_map change (guest_in was))
-pool-freed p i was slot after change count good there is moves fewer =
+pool-with_free p i was slot after change count good there is moves fewer =
     let within = good.within in
     let moved_count = moves.count in
     let held = ap held_by moves.guest in
@@ -471,25 +471,25 @@ pub step-changed : (change : GuestRecord → GuestRecord) (now new old : PoolVie
 step-changed change now new old n is there changes =
     changes ∙ ap (λ v. changed change v n) is ∙ ap (λ gs. record old { guests = gs }) (step-first change old.guests n there)
 
-pub step-freed : (now new old : PoolView) (n : ℕ) → now ≡ record old { guests = first_mapped (option_map without_spares) n old.guests; free = old.free + first_total spares_of n old.guests } → n < length old.guests
-    → new ≡ freed without_spares (spares_of (guest_at now n)) now n
+pub step-with_free : (now new old : PoolView) (n : ℕ) → now ≡ record old { guests = first_mapped (option_map without_spares) n old.guests; free = old.free + first_total spares_of n old.guests } → n < length old.guests
+    → new ≡ with_free without_spares (spares_of (guest_at now n)) now n
     → new ≡ record old { guests = first_mapped (option_map without_spares) (n + 1) old.guests; free = old.free + first_total spares_of (n + 1) old.guests }
-step-freed now new old n is there changes =
+step-with_free now new old n is there changes =
     let guests = old.guests in
     let mine : running (slice_get (first_mapped (option_map without_spares) n guests) n) ≡ get_or guests n None = next-first (option_map without_spares) guests n there in
     let more = step-first_total spares_of n guests None there in
     let spares = ap spares_of mine in
     let free : old.free + first_total spares_of n guests + spares_of (running (slice_get (first_mapped (option_map without_spares) n guests) n)) ≡ old.free + first_total spares_of (n + 1) guests = omega (arith, more, spares) in
-    changes ∙ ap (λ v. freed without_spares (spares_of (guest_at v n)) v n) is
+    changes ∙ ap (λ v. with_free without_spares (spares_of (guest_at v n)) v n) is
     ∙ (λ i. record old { guests = step-first without_spares guests n there i; free = free i })
 
 pub end-changed : (change : GuestRecord → GuestRecord) (now old : PoolView) (n : ℕ) → now ≡ record old { guests = first_mapped (option_map change) n old.guests } → n ≤ length old.guests → length old.guests ≤ n
     → now ≡ all_changed change old
 end-changed change now old n is within past = is ∙ ap (λ gs. record old { guests = gs }) (end-first_mapped (option_map change) _ old.guests n refl within past)
 
-pub end-freed : (now old : PoolView) (n : ℕ) → now ≡ record old { guests = first_mapped (option_map without_spares) n old.guests; free = old.free + first_total spares_of n old.guests } → n ≤ length old.guests → length old.guests ≤ n
+pub end-with_free : (now old : PoolView) (n : ℕ) → now ≡ record old { guests = first_mapped (option_map without_spares) n old.guests; free = old.free + first_total spares_of n old.guests } → n ≤ length old.guests → length old.guests ≤ n
     → now ≡ with_spares_back old
-end-freed now old n is within past =
+end-with_free now old n is within past =
     let ends : n ≡ length old.guests = omega (arith, within, past) in
     is ∙ (λ i. record old {
       guests = end-first_mapped (option_map without_spares) _ old.guests n refl within past i;

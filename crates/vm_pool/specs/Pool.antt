@@ -3,7 +3,7 @@ use Rattle.std.specs.Prelude.{◌≡◌, ℕ, ◌+◌, ◌*◌, ◌≤◌, List,
 use Rattle.vm_guest.specs.Config.{GuestConfig}
 use Rattle.vm_guest.specs.Record.{GuestRecord}
 use Rattle.vm_guest.specs.Room.{RoomView, room_for}
-use Rattle.vm_pool.specs.Guests.{Guests, guest_in, number_of, total, EachRunning}
+use Rattle.vm_pool.specs.Guests.{Guests, guest_in, of_running, total, EachRunning}
 
 pub record PoolView : Type 0 where
   -- how many frames the machine has
@@ -41,14 +41,14 @@ stopped_config p position = unless_runs (guest_at p position) (slice_get p.confi
 
 -- how many frames a guest holds: none where none runs
 abbrev pub held_by : Option GuestRecord → ℕ
-held_by guest = number_of (λ g. g.memory.held) guest
+held_by guest = of_running (λ g. g.memory.held) guest
 
 -- how many frames the guests hold together
 abbrev pub total_held : Guests → ℕ
 total_held guests = total (λ g. g.memory.held) guests
 
 abbrev pub one_if_runs : Option GuestRecord → ℕ
-one_if_runs guest = number_of (λ _. 1) guest
+one_if_runs guest = of_running (λ _. 1) guest
 
 -- how many guests run
 abbrev pub running_count : Guests → ℕ

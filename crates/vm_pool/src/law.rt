@@ -24,6 +24,6 @@ pub fn law_conserves()
         → Conserves (with_min_at least p i) }
     ensures with_shares { (shares : ℕ) (p : PoolView) (i : ℕ) → Conserves p → Conserves (changed (λ g. with_shares g shares) p i) }
     ensures ordered { (blocked : Bool) (p : PoolView) (i : ℕ) → Conserves p → Conserves (changed (λ g. ordered g blocked) p i) }
-    ensures ordered_all { (wait : Bool) (p : PoolView) → Conserves p → Conserves (with_orders wait p) }
+    ensures ordered_all { (blocks : Bool) (p : PoolView) → Conserves p → Conserves (with_orders blocks p) }
     ensures epoch { (p : PoolView) → Conserves p → Conserves (after_epoch p) }
 {}

@@ -6,7 +6,7 @@ ghost use Rattle.vm_guest.specs.Good.{HasNothingPosted, IsGood};
 ghost use Rattle.vm_guest.specs.Record.{reserve, steps_left};
 ghost use Rattle.vm_guest.specs.View.{view_of};
 ghost use Rattle.vm_pool.specs.CanMove.{CanGrant, CanRevoke};
-ghost use Rattle.vm_pool.specs.Changes.{after_epoch, all_changed, changed, freed, frames_to_start, granted_at, lacking, released_at, spares_of, started_at, stopped_at, surplus_of, blocked_above, with_min_at, with_orders, with_released, with_spares_back, is_above_in, AreReleasable};
+ghost use Rattle.vm_pool.specs.Changes.{after_epoch, all_changed, changed, with_free, frames_to_start, granted_at, lacking, released_at, spares_of, started_at, stopped_at, surplus_of, blocked_above, with_min_at, with_orders, with_released, with_spares_back, is_above_in, AreReleasable};
 ghost use Rattle.vm_pool.specs.Pool.{first_pool, guest_at, most_aside, overhead_frames, running_count, stopped_config, Conserves, EachGuest, HasTarget, IsRoomAt};
 ghost use Rattle.vm_pool.specs.Readers.{peeked, stalled_of, Peeks};
 ghost use Rattle.vm_pool.specs.declared.slot.Slot.TheVariants.{Stopped};
@@ -248,7 +248,7 @@ impl Pool {
     // The guest at a position gives back the spares above its target.
     fn spares_back(&mut self, position: usize)
         requires { position < length self.old.guests }
-        ensures { self.new ≡ freed without_spares (spares_of (guest_at self.old position)) self.old position }
+        ensures { self.new ≡ with_free without_spares (spares_of (guest_at self.old position)) self.old position }
     {
         spares_back(&mut self.slots[position], &mut self.machine);
     }
@@ -341,21 +341,21 @@ impl Pool {
         Ok(())
     }
 
-    /// Gives each guest its orders for the next epoch; where `wait`, one that holds more than its target may not run.
-    pub fn order_all(&mut self, wait: bool)
-        ensures { self.new ≡ with_orders wait self.old }
+    /// Gives each guest its orders for the next epoch; where `blocks`, one that holds more than its target may not run.
+    pub fn order_all(&mut self, blocks: bool)
+        ensures { self.new ≡ with_orders blocks self.old }
     {
         for position in 0..self.len() {
-            self.order_waiting(position, wait);
+            self.order_waiting(position, blocks);
         }
     }
 
-    // Gives the guest at a position its orders; where `wait`, it may not run while it holds more than its target.
-    fn order_waiting(&mut self, position: usize, wait: bool)
+    // Gives the guest at a position its orders; where `blocks`, it may not run while it holds more than its target.
+    fn order_waiting(&mut self, position: usize, blocks: bool)
         requires { position < length self.old.guests }
-        ensures { self.new ≡ changed (λ g. ordered g (blocked_above wait g)) self.old position }
+        ensures { self.new ≡ changed (λ g. ordered g (blocked_above blocks g)) self.old position }
     {
-        let blocked = wait && self.is_above(position);
+        let blocked = blocks && self.is_above(position);
         self.order(position, blocked);
     }
 

@@ -4,7 +4,7 @@ ghost use Rattle.std.specs.List.{range_with_len};
 ghost use Rattle.vm_board.specs.Gates.{HasPassed, PassedOnce};
 ghost use Rattle.vm_pool.specs.declared.slot.Slot.TheVariants.{Away};
 ghost use Rattle.vm_pool.specs.Changes.{IsServed};
-ghost use Rattle.vm_pool.specs.Guests.{number_of, total};
+ghost use Rattle.vm_pool.specs.Guests.{of_running, total};
 ghost use Rattle.vm_pool.specs.Pool.{one_if_runs, running_count};
 ghost use Rattle.vm_pool.specs.Slots.{guest_in, is_away, is_prepared, slot_run, unprepared, IsSettled};
 ghost use Rattle.vm_pool.specs.Threads.{beside_of, gain_of, pages_of, start_of, step_time, steps_of};
@@ -148,9 +148,9 @@ fn step_time(pages: u64) -> u64
 
 // What can be seen of the epoch of a slot's guest, if one runs there.
 fn work_in(slot: &Slot) -> WorkAhead
-    ensures steps { result.steps ≡ number_of steps_of (guest_in slot.now) }
-    ensures pages { result.pages ≡ number_of pages_of (guest_in slot.now) }
-    ensures beside { result.beside ≡ number_of beside_of (guest_in slot.now) }
+    ensures steps { result.steps ≡ of_running steps_of (guest_in slot.now) }
+    ensures pages { result.pages ≡ of_running pages_of (guest_in slot.now) }
+    ensures beside { result.beside ≡ of_running beside_of (guest_in slot.now) }
     ensures few_steps { result.steps ≤ 262144 }
     ensures few_pages { result.pages < 2 ^ 33 }
     ensures little { result.beside ≤ 400000000 }
@@ -167,7 +167,7 @@ fn work_in(slot: &Slot) -> WorkAhead
 
 // Twice what it takes to move that guest.
 fn move_of(slot: &Slot) -> u64
-    ensures { result ≡ 2000 * number_of (λ _. 1) (guest_in slot.now) }
+    ensures { result ≡ 2000 * of_running (λ _. 1) (guest_in slot.now) }
 {
     match guest_of(slot) {
         Some(_) => 2 * MOVE_TIME,

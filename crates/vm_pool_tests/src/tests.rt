@@ -225,7 +225,7 @@ fn frames_move_and_add_up(rt: HostRuntime) -> Result<(), Fail> {
     Ok(())
 }
 
-// Where guests wait for it, one that holds more than its target may not run.
+// Where guests above their targets are blocked, one that holds more than its target may not run.
 fn check_blocked_epoch(
     rt: &(impl AllocGlobal + Abort + Threads + Sync),
     gate: &(impl Gate + Sync),

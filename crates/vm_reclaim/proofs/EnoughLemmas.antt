@@ -14,7 +14,7 @@ use Rattle.vm_plan.specs.Revocation.{IsRevocable, IsRevocationList, revoked_row,
 use Rattle.vm_plan.specs.Row.{Row, change_at, revocable_ratio, revocable_ratios}
 use Rattle.vm_plan.proofs.Places.{revocable_row}
 use Rattle.vm_pool.specs.Changes.{lacking, taken_at}
-use Rattle.vm_pool.specs.Guests.{Guests, each_released, guest_changed, guest_in, number_of, sum_of, total}
+use Rattle.vm_pool.specs.Guests.{Guests, each_released, guest_changed, guest_in, of_running, sum_of, total}
 use Rattle.vm_pool.specs.Pool.{PoolView, Conserves, EachGuest, running_count, total_held}
 use Rattle.vm_tax.specs.Offers.{IsLeast}
 use Rattle.vm_tax.specs.Ratio.{Ratio, Tax}
@@ -106,7 +106,7 @@ rows-totals (Some g ∷ guests) = let rest = rows-totals guests in omega (arith,
 
 sum-shares : (short : ℕ) (guests : Guests) → sum_of (surplus_shares short guests) ≡ min short (total surplus guests)
 sum-shares short [] = omega arith
-sum-shares short (guest ∷ guests) = let rest = sum-shares (short - number_of surplus guest) guests in omega (arith, rest)
+sum-shares short (guest ∷ guests) = let rest = sum-shares (short - of_running surplus guest) guests in omega (arith, rest)
 
 promised-is : (overhead : ℕ) (guests : Guests) → total (promised_to overhead) guests ≡ total min_of guests + overhead * running_count guests
 promised-is overhead [] = omega arith
@@ -120,12 +120,12 @@ held-within (Some g ∷ guests) = let rest = held-within guests in omega (arith,
 
 -- a number of what is allotted is the same once frames were given up, also where a minimum is raised
 released-number : (number : Allotment → ℕ) (n : ℕ) (guest : Option GuestRecord)
-    → number_of (λ g. number g.allotment) (option_map (released n) guest) ≡ number_of (λ g. number g.allotment) guest
+    → of_running (λ g. number g.allotment) (option_map (released n) guest) ≡ of_running (λ g. number g.allotment) guest
 released-number number n None = refl
 released-number number n (Some g) = ap number (released-allotment n g)
 
 raised-number : (number : Allotment → ℕ) (least n : ℕ) (guest : Option GuestRecord)
-    → number_of (λ g. number (with_min g least).allotment) (option_map (released n) guest) ≡ number_of (λ g. number (with_min g least).allotment) guest
+    → of_running (λ g. number (with_min g least).allotment) (option_map (released n) guest) ≡ of_running (λ g. number (with_min g least).allotment) guest
 raised-number number least n guest = released-number (λ a. number (record a { min = least; least_min = min a.least_min least; target = max a.target least })) n guest
 
 total-released : (number : Allotment → ℕ) (counts : List ℕ) (guests : Guests)
@@ -135,7 +135,7 @@ total-released number (count ∷ counts) [] = refl
 total-released number (count ∷ counts) (guest ∷ guests) = λ i. released-number number count guest i + total-released number counts guests i
 
 number-mapped : (number : GuestRecord → ℕ) (change : GuestRecord → GuestRecord) (guest : Option GuestRecord)
-    → number_of number (option_map change guest) ≡ number_of (λ g. number (change g)) guest
+    → of_running number (option_map change guest) ≡ of_running (λ g. number (change g)) guest
 number-mapped number change None = refl
 number-mapped number change (Some g) = refl
 
@@ -192,10 +192,10 @@ room_found tax raise needed pool good =
 shares-up-to : (short : ℕ) (guests : Guests) (i : ℕ) → slice_index_or (surplus_shares short guests) i 0 ≤ short
 shares-up-to short [] i = omega arith
 shares-up-to short (guest ∷ guests) zero = omega arith
-shares-up-to short (guest ∷ guests) (suc i) = let rest = shares-up-to (short - number_of surplus guest) guests i in omega (arith, rest)
+shares-up-to short (guest ∷ guests) (suc i) = let rest = shares-up-to (short - of_running surplus guest) guests i in omega (arith, rest)
 
 -- where it lacks frames, it has none above its target
-lacks-surplus : (least : ℕ) (guest : Option GuestRecord) → 1 ≤ lacking least guest → number_of surplus (option_map (λ g. with_min g least) guest) ≡ 0
+lacks-surplus : (least : ℕ) (guest : Option GuestRecord) → 1 ≤ lacking least guest → of_running surplus (option_map (λ g. with_min g least) guest) ≡ 0
 lacks-surplus least None lacks = refl
 lacks-surplus least (Some g) lacks = omega (arith, lacks)
 
@@ -204,7 +204,7 @@ no-share raise needed pool is =
     let seen = (raised (Some raise) pool).guests in
     let few = shares-up-to (needed - pool.free) seen raise.position in
     let within = shares_within (needed - pool.free) seen raise.position in
-    let here = ap (number_of surplus) (changed_here (λ g. with_min g raise.least) pool.guests raise.position) in
+    let here = ap (of_running surplus) (changed_here (λ g. with_min g raise.least) pool.guests raise.position) in
     ⊎_elim
     (λ (some : 0 < needed).
     let none = lacks-surplus raise.least (guest_in pool.guests raise.position) (omega (arith, some, is)) in
@@ -262,13 +262,13 @@ seen-held least (None ∷ guests) (suc k) = let rest = seen-held least guests k 
 seen-held least (Some g ∷ guests) (suc k) = let rest = seen-held least guests k in omega (arith, rest)
 
 seen-min : (least : ℕ) (guests : Guests) (k : ℕ)
-    → total min_of (guest_changed (λ g. with_min g least) guests k) + number_of min_of (guest_in guests k) ≤ total min_of guests + least
+    → total min_of (guest_changed (λ g. with_min g least) guests k) + of_running min_of (guest_in guests k) ≤ total min_of guests + least
 seen-min least [] k = omega arith
 seen-min least (None ∷ guests) zero = omega arith
 seen-min least (Some g ∷ guests) zero = omega arith
 seen-min least (guest ∷ guests) (suc k) = let rest = seen-min least guests k in omega (arith, rest)
 
-number-within : (number : GuestRecord → ℕ) (guests : Guests) (k : ℕ) → number_of number (guest_in guests k) ≤ total number guests
+number-within : (number : GuestRecord → ℕ) (guests : Guests) (k : ℕ) → of_running number (guest_in guests k) ≤ total number guests
 number-within number [] k = omega arith
 number-within number (guest ∷ guests) zero = omega arith
 number-within number (guest ∷ guests) (suc k) = let rest = number-within number guests k in omega (arith, rest)

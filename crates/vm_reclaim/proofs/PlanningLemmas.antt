@@ -16,12 +16,12 @@ use Rattle.vm_plan.specs.PlanRow.{row_of as plan_row, rows_of as plan_rows}
 use Rattle.vm_plan.specs.Revocation.{IsRevocable, revoked_row, rows_after}
 use Rattle.vm_plan.specs.Row.{Row, change_at, wanting_ratios}
 use Rattle.vm_pool.specs.Changes.{changed, granted_at, blocked_above, with_orders}
-use Rattle.vm_pool.specs.Guests.{Guests, each_changed, each_released, guest_changed, number_of, sum_of}
+use Rattle.vm_pool.specs.Guests.{Guests, each_changed, each_released, guest_changed, of_running, sum_of}
 use Rattle.vm_pool.specs.Pool.{PoolView, total_held}
 use Rattle.vm_tax.specs.Offers.{greatest_position}
 use Rattle.vm_tax.specs.Ratio.{Tax}
 use Rattle.vm_reclaim.specs.Boundary.{pool_reclaimed}
-use Rattle.vm_reclaim.specs.declared.told.Paged.{Paged}
+use Rattle.vm_reclaim.specs.declared.lists.Paged.{Paged}
 use Rattle.vm_reclaim.specs.Fairness.{TakesFromCheapest}
 use Rattle.vm_reclaim.specs.Planning.{CanLower, frames_in, if_paged, paged_row, row_counts, waiting_from, waits_row}
 use Rattle.vm_reclaim.specs.Policy.{Policy}
@@ -63,13 +63,13 @@ frames-told position (zero ∷ counts) = let later = frames-told (position + 1) 
 frames-told position (suc count ∷ counts) = ap (λ n. suc count + n) (frames-told (position + 1) counts)
 
 -- one more row waits, or doesn't
-pub step-waiting : (wait : Bool) (out : List ℕ) (rows : List Row) (i : ℕ) (b : Bool) (row : Row) (whole : List ℕ) → i < length rows → get_or rows i row ≡ row → b ≡ waits_row wait row
-    → out ++ waiting_from i wait (drop i rows) ≡ whole → (out ++ if_blocked b i) ++ waiting_from (i + 1) wait (drop (i + 1) rows) ≡ whole
-step-waiting wait out rows i b row whole there here is done =
-    let later = waiting_from (i + 1) wait (drop (i + 1) rows) in
+pub step-waiting : (blocks : Bool) (out : List ℕ) (rows : List Row) (i : ℕ) (b : Bool) (row : Row) (whole : List ℕ) → i < length rows → get_or rows i row ≡ row → b ≡ waits_row blocks row
+    → out ++ waiting_from i blocks (drop i rows) ≡ whole → (out ++ if_blocked b i) ++ waiting_from (i + 1) blocks (drop (i + 1) rows) ≡ whole
+step-waiting blocks out rows i b row whole there here is done =
+    let later = waiting_from (i + 1) blocks (drop (i + 1) rows) in
     told-first b out later i
-    ∙ (ap (λ c. out ++ (if c then i ∷ later else later)) (is ∙ ap (waits_row wait) (sym here))
-    ∙ (ap (λ l. out ++ waiting_from i wait l) (sym (drop_more rows i row there)) ∙ done))
+    ∙ (ap (λ c. out ++ (if c then i ∷ later else later)) (is ∙ ap (waits_row blocks) (sym here))
+    ∙ (ap (λ l. out ++ waiting_from i blocks l) (sym (drop_more rows i row there)) ∙ done))
 
 -- ---- targets fall
 
@@ -91,7 +91,7 @@ held-changed : (guests : Guests) (k : ℕ) → total_held (guest_changed revoked
 held-changed [] k = refl
 held-changed (None ∷ guests) zero = refl
 held-changed (Some g ∷ guests) zero = refl
-held-changed (guest ∷ guests) (suc k) = ap (λ n. number_of (λ g. g.memory.held) guest + n) (held-changed guests k)
+held-changed (guest ∷ guests) (suc k) = ap (λ n. of_running (λ g. g.memory.held) guest + n) (held-changed guests k)
 
 -- frames are held as before
 pub held-fallen : (pool : PoolView) (moves : List ℕ) → total_held (fold (changed revoked) pool moves).guests ≡ total_held pool.guests
@@ -142,11 +142,11 @@ count-within Hard page_rate row = omega arith
 count-within Low page_rate row = omega arith
 
 pub few-given : (state : State) (page_rate : ℕ) (guest : Option GuestRecord)
-    → page_count_of state (row_at guest) page_rate ≤ number_of (λ g. g.memory.held - g.allotment.target) guest
+    → page_count_of state (row_at guest) page_rate ≤ of_running (λ g. g.memory.held - g.allotment.target) guest
 few-given state page_rate None = let none = idle-count state page_rate in omega (arith, none)
 few-given state page_rate (Some g) = count-within state page_rate (row_of g)
 
-number-within : (guest : Option GuestRecord) → number_of (λ g. g.memory.held - g.allotment.target) guest ≤ number_of (λ g. g.memory.held) guest
+number-within : (guest : Option GuestRecord) → of_running (λ g. g.memory.held - g.allotment.target) guest ≤ of_running (λ g. g.memory.held) guest
 number-within None = omega arith
 number-within (Some g) = omega arith
 
@@ -159,7 +159,7 @@ given-within state page_rate (guest ∷ guests) =
     let rest = given-within state page_rate guests in
     omega (arith, few, held, rest)
 
--- ---- guests wait
+-- ---- guests are blocked
 
 no-grant : (n : ℕ) (t : Thresholds) (tax : Tax) (pool : Pool) → grants_up_to n Low t tax pool ≡ []
 unfolding grants_up_to
@@ -175,18 +175,18 @@ no-grant (suc n) t tax pool = go (greatest_position (wanting_ratios tax pool.row
 pub none-granted : (t : Thresholds) (tax : Tax) (pool : Pool) → grant_list Low t tax pool ≡ []
 none-granted t tax pool = no-grant (total_demand pool.rows) t tax pool
 
-never : (wait : Bool) → (wait && false) ≡ false
+never : (blocks : Bool) → (blocks && false) ≡ false
 never true = refl
 never false = refl
 
-waiting-are : (wait : Bool) (position : ℕ) (guests : Guests)
-    → waiting_from position wait (rows_of guests) ≡ blocked_from position (each_changed (λ g. ordered g (blocked_above wait g)) guests)
-waiting-are wait position [] = refl
-waiting-are wait position (None ∷ guests) =
-    let later = waiting-are wait (position + 1) guests in
-    ap (λ b. if b then position ∷ waiting_from (position + 1) wait (rows_of guests) else waiting_from (position + 1) wait (rows_of guests)) (never wait) ∙ later
-waiting-are wait position (Some g ∷ guests) =
-    ap (λ later. if wait && nat_lt g.allotment.target g.memory.held then position ∷ later else later) (waiting-are wait (position + 1) guests)
+waiting-are : (blocks : Bool) (position : ℕ) (guests : Guests)
+    → waiting_from position blocks (rows_of guests) ≡ blocked_from position (each_changed (λ g. ordered g (blocked_above blocks g)) guests)
+waiting-are blocks position [] = refl
+waiting-are blocks position (None ∷ guests) =
+    let later = waiting-are blocks (position + 1) guests in
+    ap (λ b. if b then position ∷ waiting_from (position + 1) blocks (rows_of guests) else waiting_from (position + 1) blocks (rows_of guests)) (never blocks) ∙ later
+waiting-are blocks position (Some g ∷ guests) =
+    ap (λ later. if blocks && nat_lt g.allotment.target g.memory.held then position ∷ later else later) (waiting-are blocks (position + 1) guests)
 
 pub none-waits : (position : ℕ) (rows : List Row) → waiting_from position false rows ≡ []
 none-waits position [] = refl
@@ -200,7 +200,7 @@ none-blocked position (Some g ∷ guests) = none-blocked (position + 1) guests
 all-run : (rows : List Row) (pool : PoolView) → waiting_from 0 false rows ≡ blocked_from 0 (with_orders false pool).guests
 all-run rows pool = none-waits 0 rows ∙ sym (none-blocked 0 pool.guests)
 
--- the guests that wait are those that hold more than their targets before anything is granted
+-- the guests that are blocked are those that hold more than their targets before anything is granted
 pub blocked-are : (policy : Policy) (state : State) (pool : PoolView)
     → waiting_from 0 (blocks_in state) (rows_of pool.guests) ≡ blocked_from 0 (with_orders (blocks_in state) (pool_granted policy state pool)).guests
 blocked-are policy High pool = all-run (rows_of pool.guests) (pool_granted policy High pool)

@@ -15,7 +15,7 @@ use Rattle.vm_pool.specs.Pool.{PoolView}
 use Rattle.vm_tax.specs.Offers.{Offer, best_offer, greatest_position, one_further}
 use Rattle.vm_tax.specs.Ratio.{Tax, is_less}
 use Rattle.vm_reclaim.specs.Boundary.{plan_of, pool_reclaimed, CanCarryOut}
-use Rattle.vm_reclaim.specs.declared.told.BoundaryPlan.{BoundaryPlan}
+use Rattle.vm_reclaim.specs.declared.lists.BoundaryPlan.{BoundaryPlan}
 use Rattle.vm_reclaim.specs.Planning.{paged_row, IsAtRest}
 use Rattle.vm_reclaim.specs.Policy.{Policy}
 use Rattle.vm_reclaim.specs.Reclaim.{counts_of, paged_from, pool_revoked, revocations_in}

@@ -9,7 +9,7 @@ use Rattle.vm_guest.specs.Boundary.{surplus}
 use Rattle.vm_plan.specs.declared.row.PlanRow.{PlanRow}
 use Rattle.vm_plan.specs.PlanRow.{row_of as plan_row, rows_of as plan_rows}
 use Rattle.vm_pool.specs.Changes.{AreReleasable}
-use Rattle.vm_pool.specs.Guests.{number_of}
+use Rattle.vm_pool.specs.Guests.{of_running}
 use Rattle.vm_reclaim.specs.Making.{shares_of}
 use Rattle.vm_reclaim.specs.Room.{surplus_counts, surplus_shares}
 use Rattle.vm_guest.specs.Boundary.{granted, is_full, with_grant, with_min, with_spare}
@@ -143,15 +143,15 @@ shares_are short (Some g ∷ guests) = ap (λ l. min short (surplus g) ∷ l) (s
 
 pub length-shares : (short : ℕ) (guests : Guests) → length (surplus_shares short guests) ≡ length guests
 length-shares short [] = refl
-length-shares short (guest ∷ guests) = let rest = length-shares (short - number_of surplus guest) guests in omega (arith, rest)
+length-shares short (guest ∷ guests) = let rest = length-shares (short - of_running surplus guest) guests in omega (arith, rest)
 
-pub shares_within : (short : ℕ) (guests : Guests) (i : ℕ) → slice_index_or (surplus_shares short guests) i 0 ≤ number_of surplus (guest_in guests i)
+pub shares_within : (short : ℕ) (guests : Guests) (i : ℕ) → slice_index_or (surplus_shares short guests) i 0 ≤ of_running surplus (guest_in guests i)
 shares_within short [] i = omega arith
 shares_within short (guest ∷ guests) zero = omega arith
-shares_within short (guest ∷ guests) (suc i) = shares_within (short - number_of surplus guest) guests i
+shares_within short (guest ∷ guests) (suc i) = shares_within (short - of_running surplus guest) guests i
 
 raised_surplus : (least : ℕ) (guests : Guests) (k i : ℕ)
-    → number_of surplus (guest_in (guest_changed (λ g. with_min g least) guests k) i) ≤ number_of surplus (guest_in guests i)
+    → of_running surplus (guest_in (guest_changed (λ g. with_min g least) guests k) i) ≤ of_running surplus (guest_in guests i)
 raised_surplus least [] k i = omega arith
 raised_surplus least (None ∷ guests) zero zero = omega arith
 raised_surplus least (Some g ∷ guests) zero zero = omega arith
@@ -159,7 +159,7 @@ raised_surplus least (guest ∷ guests) zero (suc i) = omega arith
 raised_surplus least (guest ∷ guests) (suc k) zero = omega arith
 raised_surplus least (guest ∷ guests) (suc k) (suc i) = raised_surplus least guests k i
 
-surplus_seen : (raise : Option Raise) (pool : PoolView) (i : ℕ) → number_of surplus (guest_in (raised raise pool).guests i) ≤ number_of surplus (guest_in pool.guests i)
+surplus_seen : (raise : Option Raise) (pool : PoolView) (i : ℕ) → of_running surplus (guest_in (raised raise pool).guests i) ≤ of_running surplus (guest_in pool.guests i)
 surplus_seen None pool i = omega arith
 surplus_seen (Some raise) pool i = raised_surplus raise.least pool.guests raise.position i
 

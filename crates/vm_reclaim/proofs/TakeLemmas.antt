@@ -10,7 +10,7 @@ use Rattle.vm_guest.specs.Record.{GuestRecord}
 use Rattle.vm_guest.proofs.BoundaryLemmas.{released-allotment}
 use Rattle.vm_guest.proofs.GoodLemmas.{released-good, revoked-good}
 use Rattle.vm_pool.specs.Changes.{taken_at, AreReleasable}
-use Rattle.vm_pool.specs.Guests.{Guests, each_released, guest_changed, guest_in, number_of, EachRunning}
+use Rattle.vm_pool.specs.Guests.{Guests, each_released, guest_changed, guest_in, of_running, EachRunning}
 use Rattle.vm_pool.specs.Pool.{PoolView, EachGuest}
 use Rattle.vm_tax.specs.Ratio.{Tax}
 use Rattle.vm_reclaim.specs.declared.room.Raise.{Raise}
@@ -149,7 +149,7 @@ length-released [] guests = refl
 length-released (count ∷ counts) [] = refl
 length-released (count ∷ counts) (guest ∷ guests) = let rest = length-released counts guests in omega (arith, rest)
 
-released_fact : (count : ℕ) (guest : Option GuestRecord) → count ≤ number_of surplus guest → IfSome guest IsGood → IfSome (option_map (released count) guest) IsGood
+released_fact : (count : ℕ) (guest : Option GuestRecord) → count ≤ of_running surplus guest → IfSome guest IsGood → IfSome (option_map (released count) guest) IsGood
 released_fact count None few good = tt
 released_fact count (Some g) few good = released-good count g few good
 
@@ -195,7 +195,7 @@ raise_left (Some raise) needed pool can =
     }
 
 -- a guest that lacks frames for a raised minimum isn't above it
-low_guest : (least n : ℕ) (guest : Option GuestRecord) → 1 ≤ number_of (λ g. least - g.memory.held) guest → IfSome guest IsGood
+low_guest : (least n : ℕ) (guest : Option GuestRecord) → 1 ≤ of_running (λ g. least - g.memory.held) guest → IfSome guest IsGood
     → IfSome (option_map (released n) guest) (λ g. g.allotment.target ≤ least)
 low_guest least n None lacks good = tt
 low_guest least n (Some g) lacks good =

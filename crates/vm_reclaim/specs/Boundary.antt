@@ -5,8 +5,8 @@ use Rattle.vm_plan.specs.declared.state.State.{State}
 use Rattle.vm_pool.specs.Changes.{changed, granted_at, released_at, surplus_of, with_orders}
 use Rattle.vm_pool.specs.CanMove.{CanGrant, CanRevoke}
 use Rattle.vm_pool.specs.Pool.{PoolView, guest_at}
-use Rattle.vm_reclaim.specs.declared.told.BoundaryPlan.{BoundaryPlan}
-use Rattle.vm_reclaim.specs.declared.told.Paged.{Paged}
+use Rattle.vm_reclaim.specs.declared.lists.BoundaryPlan.{BoundaryPlan}
+use Rattle.vm_reclaim.specs.declared.lists.Paged.{Paged}
 use Rattle.vm_reclaim.specs.Policy.{Policy}
 use Rattle.vm_reclaim.specs.Reclaim.{blocked_from, counts_of, grants_in, paged_from, pool_granted, pool_paged, pool_revoked, revocations_in, blocks_in}
 

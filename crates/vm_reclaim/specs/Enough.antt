@@ -2,7 +2,7 @@
 -- Waldspurger, OSDI 2002, section 6.2).
 use Rattle.std.specs.Prelude.{ℕ, ◌+◌, ◌-◌, ◌≤◌}
 use Rattle.vm_guest.specs.Record.{GuestRecord}
-use Rattle.vm_pool.specs.Guests.{guest_in, number_of, total}
+use Rattle.vm_pool.specs.Guests.{guest_in, of_running, total}
 use Rattle.vm_pool.specs.Pool.{PoolView}
 use Rattle.vm_reclaim.specs.Room.{needed_to_start}
 
@@ -16,7 +16,7 @@ promised pool = total (promised_to pool.overhead) pool.guests
 
 -- the minimum of the guest at a position, if one runs there
 abbrev pub min_at : PoolView → ℕ → ℕ
-min_at pool position = number_of (λ g. g.allotment.min) (guest_in pool.guests position)
+min_at pool position = of_running (λ g. g.allotment.min) (guest_in pool.guests position)
 
 -- the frames cover what is promised, and what the stopped guest at a position is promised once it runs
 abbrev pub CoversStart : PoolView → ℕ → Type 0

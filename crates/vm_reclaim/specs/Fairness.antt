@@ -37,8 +37,11 @@ TakesFromCheapest tax take pool [] = ⊤
 TakesFromCheapest tax take pool (position ∷ moves) =
     IsCheapest tax pool.guests position × TakesFromCheapest tax take (take pool position) moves
 
--- ---- the revocations that a command needs: the guest whose minimum is raised is seen with it
+-- ---- the revocations that a command needs
 
+-- each revocation for room takes from the guest that is cheapest then, where the guest whose minimum is raised counts as having it
+-- already
 abbrev pub TakesFairly : Policy → Option Raise → ℕ → PoolView → Type 0
 TakesFairly policy raise needed pool =
-    TakesFromCheapest policy.tax taken_at (raised raise (with_surplus_back raise needed pool)) (revocations_for_room policy.tax raise needed pool)
+    let left = with_surplus_back raise needed pool in
+    TakesFromCheapest policy.tax taken_at (raised raise left) (revocations_for_room policy.tax raise needed pool)

@@ -8,7 +8,7 @@ use Rattle.vm_plan.specs.Paging.{page_count_of}
 use Rattle.vm_plan.specs.Revocation.{IsRevocable, revoked_row}
 use Rattle.vm_plan.specs.Row.{Row, change_at}
 use Rattle.vm_pool.specs.Pool.{PoolView}
-use Rattle.vm_reclaim.specs.declared.told.Paged.{Paged}
+use Rattle.vm_reclaim.specs.declared.lists.Paged.{Paged}
 use Rattle.vm_reclaim.specs.Rows.{plan_pool_of}
 
 -- there is a guest above its minimum for each of these, one after the other
@@ -34,17 +34,17 @@ abbrev pub frames_in : List Paged → ℕ
 frames_in [] = 0
 frames_in (paged ∷ later) = paged.count + frames_in later
 
--- where guests wait, one waits that holds more than its target
+-- whether a guest is blocked, where `blocks` says whether guests above their targets are
 abbrev pub waits_row : Bool → Row → Bool
-waits_row wait row = wait && nat_lt row.target row.held
+waits_row blocks row = blocks && nat_lt row.target row.held
 
--- the guests that wait, from a position on
+-- the guests that are blocked, from a position on
 abbrev pub waiting_from : ℕ → Bool → List Row → List ℕ
-waiting_from position wait [] = []
-waiting_from position wait (row ∷ rows) =
-    if waits_row wait row
-    then position ∷ waiting_from (position + 1) wait rows
-    else waiting_from (position + 1) wait rows
+waiting_from position blocks [] = []
+waiting_from position blocks (row ∷ rows) =
+    if waits_row blocks row
+    then position ∷ waiting_from (position + 1) blocks rows
+    else waiting_from (position + 1) blocks rows
 
 -- nothing is taken, and no guest that wants to grow may
 abbrev pub IsAtRest : Thresholds → State → PoolView → Type 0

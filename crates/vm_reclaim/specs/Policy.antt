@@ -6,7 +6,7 @@ use Rattle.vm_tax.specs.Ratio.{Tax, percents, hundredths}
 use Rattle.vm_domains.specs.Machine.{MachineConfig}
 
 pub record Policy : Type 0 where
-  -- on idle memory (Waldspurger, OSDI 2002, section 5.2)
+  -- the tax on idle memory (Waldspurger, OSDI 2002, section 5.2)
   pub tax : Tax
   -- how much memory is meant to be free (section 6.3)
   pub thresholds : Thresholds

@@ -12,7 +12,7 @@ use Rattle.vm_plan.specs.Revocation.{revocation_list, shortfall_of}
 use Rattle.vm_pool.specs.Changes.{changed, granted_at, with_released}
 use Rattle.vm_pool.specs.Guests.{Guests}
 use Rattle.vm_pool.specs.Pool.{PoolView}
-use Rattle.vm_reclaim.specs.declared.told.Paged.{Paged}
+use Rattle.vm_reclaim.specs.declared.lists.Paged.{Paged}
 use Rattle.vm_reclaim.specs.Policy.{Policy}
 use Rattle.vm_reclaim.specs.Rows.{plan_pool_of, row_at, rows_of}
 
@@ -64,7 +64,7 @@ blocked_from position (guest ∷ guests) =
     then position ∷ blocked_from (position + 1) guests
     else blocked_from (position + 1) guests
 
--- in low, a guest waits that holds more than its target
+-- whether guests that hold more than their targets are blocked in a state
 abbrev pub blocks_in : State → Bool
 blocks_in Low = true
 blocks_in High = false

@@ -5,7 +5,7 @@ use Rattle.std.specs.Prelude.{ℕ, ◌-◌, List, [], ◌∷◌, Option, Some, N
 use Rattle.vm_guest.specs.Boundary.{surplus, with_min}
 use Rattle.vm_plan.specs.Revocation.{revocation_list}
 use Rattle.vm_pool.specs.Changes.{changed, frames_to_start, lacking, taken_at, with_released}
-use Rattle.vm_pool.specs.Guests.{Guests, guest_in, number_of}
+use Rattle.vm_pool.specs.Guests.{Guests, guest_in, of_running}
 use Rattle.vm_pool.specs.Pool.{PoolView}
 use Rattle.vm_reclaim.specs.declared.room.Raise.{Raise}
 use Rattle.vm_tax.specs.Ratio.{Tax}
@@ -15,10 +15,10 @@ use Rattle.vm_reclaim.specs.Rows.{rows_of}
 abbrev pub surplus_shares : ℕ → Guests → List ℕ
 surplus_shares short [] = []
 surplus_shares short (guest ∷ guests) =
-    min short (number_of surplus guest) ∷ surplus_shares (short - number_of surplus guest) guests
+    min short (of_running surplus guest) ∷ surplus_shares (short - of_running surplus guest) guests
 
--- the guest for whose raised minimum room is made is seen with that minimum, which its target rises to: where it lacks frames, it
--- gives none
+-- the pool as room is made for a raised minimum: its guest has that minimum already, and a target no less, so that it gives no
+-- frame that it lacks itself
 abbrev pub raised : Option Raise → PoolView → PoolView
 raised None pool = pool
 raised (Some raise) pool = changed (λ g. with_min g raise.least) pool raise.position
@@ -27,7 +27,7 @@ raised (Some raise) pool = changed (λ g. with_min g raise.least) pool raise.pos
 abbrev pub surplus_counts : Option Raise → ℕ → PoolView → List ℕ
 surplus_counts raise needed pool = surplus_shares (needed - pool.free) (raised raise pool).guests
 
--- the frames once guests gave up what they hold above their targets, as long as frames are short
+-- the pool once guests gave up what they hold above their targets, as long as frames are short
 abbrev pub with_surplus_back : Option Raise → ℕ → PoolView → PoolView
 with_surplus_back raise needed pool = with_released (surplus_counts raise needed pool) pool
 
@@ -37,7 +37,7 @@ revocations_for_room tax raise needed pool =
     let left = with_surplus_back raise needed pool in
     revocation_list tax (needed - left.free) (rows_of (raised raise left).guests)
 
--- the frames once so many are free
+-- the pool once so many frames are free
 abbrev pub room_made : Tax → Option Raise → ℕ → PoolView → PoolView
 room_made tax raise needed pool = fold taken_at (with_surplus_back raise needed pool) (revocations_for_room tax raise needed pool)
 

@@ -16,11 +16,11 @@ ghost use Rattle.vm_reclaim.specs.Reclaim.{if_blocked, paged_from, pool_revoked,
 ghost use Rattle.vm_reclaim.specs.Rows.{plan_pool_of, rows_of};
 ghost use Rattle.vm_tax.specs.Ratio.{hundredths};
 
+use crate::lists::{Blocked, BoundaryPlan, Paged, Paging};
 use crate::policy::Numbers;
 use crate::reclaim::blocks_in;
 use crate::rest::{is_at_rest, nothing};
 use crate::rows::rows_of;
-use crate::told::{Blocked, BoundaryPlan, Paged, Paging};
 use std::alloc::{AllocError, Global};
 use vm_plan::{Plan, PlanRow, State, grant, is_blocked, page_count, revoke};
 use vm_pool::Pool;
@@ -135,7 +135,7 @@ fn free_after(pool: &Pool, paged: &[Paged]) -> u32
     pool.frames() - used
 }
 
-// Whether the guest of a row has to wait.
+// Whether the guest of a row is blocked.
 fn waits(state: State, row: &PlanRow) -> bool
     ensures { result ≡ waits_row (blocks_in state) (row_of row.now) }
 {
@@ -152,7 +152,7 @@ fn push_blocked(blocked: &mut Vec<u32>, position: u32, is: bool) -> Result<(), A
     Ok(())
 }
 
-// The positions of the guests that have to wait, in order. Where the state lets all run, no row is looked at.
+// The positions of the guests that are blocked, in order. Where the state lets all run, no row is looked at.
 fn blocked_of(alloc: Global, state: State, rows: &[PlanRow]) -> Result<Blocked, AllocError>
     requires few { length rows.now ≤ 256 }
     ensures list { IfOk result (λ blocked. blocked ≡ waiting_from 0 (blocks_in state) (plan_rows rows.now)) }
@@ -169,15 +169,15 @@ fn blocked_of(alloc: Global, state: State, rows: &[PlanRow]) -> Result<Blocked, 
 }
 
 /// What a boundary is to take from its guests and give them (Waldspurger, OSDI 2002, sections 5.1, 5.2 and 6.3): targets fall, then
-/// guests give up frames, then targets rise, and at last some guests wait. All of it is found before the first move, each list from
-/// the frames as the lists before it will leave them.
+/// guests give up frames, then targets rise, and at last some guests are blocked. All of it is found before the first move, each list
+/// from the frames as the lists before it will leave them.
 ///
 /// Targets fall by as many pages as frames are missing to the goal, beside those free and those that guests hold above their targets
 /// (min-funding revocation); in High by none. A guest gives up at most the page rate, and no more than it holds above its target; in
 /// Soft it is also no more than it uses above its target; in High none. Each page that is granted goes to the guest whose adjusted
 /// ratio is greatest of those that want one: in High while more frames are free than the threshold of Soft, in Soft and Hard while
-/// more are free than the next lower threshold and the guest outbids the others, in Low never. In Low guests wait that hold more than
-/// their targets.
+/// more are free than the next lower threshold and the guest outbids the others, in Low never. In Low guests that hold more than their
+/// targets are blocked.
 ///
 /// The cost is a few steps for each guest, and a logarithm of their number for each page. In High, where no guest that wants to grow may,
 /// guests are at most asked whether they want to. The only error is a want of memory, where there is a guest, running or not.

@@ -1,5 +1,5 @@
 //! What a host does about its guests' memory once it is planned: targets fall, guests give up frames, targets rise, and some guests
-//! wait.
+//! are blocked.
 ghost use Rattle.std.specs.Prelude.{◌≡◌, fold};
 ghost use Rattle.vm_guest.specs.Boundary.{revoked};
 ghost use Rattle.vm_pool.specs.Changes.{changed, granted_at};
@@ -9,8 +9,8 @@ ghost use Rattle.vm_reclaim.specs.Numbers.{policy_in};
 ghost use Rattle.vm_reclaim.specs.Policy.{policy_of};
 ghost use Rattle.vm_reclaim.specs.Reclaim.{blocks_in};
 
+use crate::lists::{BoundaryPlan, Paged};
 use crate::policy::Numbers;
-use crate::told::{BoundaryPlan, Paged};
 use vm_domains::MachineSpec;
 use vm_plan::{Plan, State, Thresholds};
 use vm_pool::Pool;
@@ -72,7 +72,7 @@ pub fn carry_out(pool: &mut Pool, plan: &BoundaryPlan)
     grant_all(pool, &plan.granted);
 }
 
-/// Whether a guest that holds more than its target has to wait: in Low alone (Waldspurger, OSDI 2002, section 6.3).
+/// Whether a guest that holds more than its target is blocked: in Low alone (Waldspurger, OSDI 2002, section 6.3).
 pub fn blocks_in(state: State) -> bool
     ensures { result ≡ blocks_in state }
 {

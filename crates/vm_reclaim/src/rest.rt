@@ -8,9 +8,9 @@ ghost use Rattle.vm_pool.specs.Pool.{guest_at};
 ghost use Rattle.vm_reclaim.specs.Planning.{IsAtRest};
 ghost use Rattle.vm_reclaim.specs.Rows.{plan_pool_of, row_at, rows_of};
 
+use crate::lists::{Blocked, BoundaryPlan, Paging};
 use crate::policy::Numbers;
 use crate::rows::row_at;
-use crate::told::{Blocked, BoundaryPlan, Paging};
 use std::alloc::Global;
 use vm_plan::{Plan, State, lets_grow};
 use vm_pool::Pool;

@@ -151,7 +151,7 @@ struct Told {
     granted: [usize; 2],
     // How many frames the first guest gave up by paging.
     paged: u32,
-    // Whether the first guest has to wait.
+    // Whether the first guest is blocked.
     blocked: bool,
 }
 

@@ -11,7 +11,7 @@ use Rattle.vm_guest.specs.Start.{started}
 use Rattle.vm_guest.proofs.LastWriteLemmas.{last_write-append}
 use Rattle.vm_guest.proofs.WrittenLemmas.{started-written}
 use Rattle.vm_host.specs.declared.boundary.Refusal.{Refusal}
-use Rattle.vm_host.specs.Boundary.{past_boundary_by, opened, settled}
+use Rattle.vm_host.specs.Boundary.{past_boundary_by, opened_boundary, settled}
 use Rattle.vm_host.specs.Commands.{after_line, after_lines, decided, obeyed_by}
 use Rattle.vm_host.specs.Decisions.{Admitted, decision_on_line}
 use Rattle.vm_host.specs.History.{history_after_lines, history_after_service, history_of_command, history_of_decision}
@@ -125,14 +125,14 @@ lines-told policy (line ∷ lines) w h told =
 
 -- ---- before and after the lines
 
-opened-told : (w : World) (h : History) → IsSoundWorld w → AreAll IsKnown (guests_of w) h → IsTold (opened w).pool (history_after_service (guests_of w) h)
-opened-told w h sound known =
+opened_boundary-told : (w : World) (h : History) → IsSoundWorld w → AreAll IsKnown (guests_of w) h → IsTold (opened_boundary w).pool (history_after_service (guests_of w) h)
+opened_boundary-told w h sound known =
     let pool = sound.pool in
     let serviced_pool = all_changed serviced w.pool in
     let after = history_after_service (guests_of w) h in
     let written = told-spares serviced_pool after (told-serviced w.pool h (known-good w.pool.guests h known) (known-written w.pool.guests h known)) in
     record {
-      paired = length-all IsWrittenBy (opened w).pool.guests after written
+      paired = length-all IsWrittenBy (opened_boundary w).pool.guests after written
           ∙ (length-map (each_changed serviced w.pool.guests) _ ∙ (length-map w.pool.guests _ ∙ pool.paired));
       served = served-spares serviced_pool (served-serviced w.pool);
       written = written;
@@ -162,13 +162,13 @@ pub bounded-given : (policy : Policy) (w : World) (lines : List (List ℕ)) (h :
 bounded-given policy w lines h sound known =
     let found = settled policy w lines in
     let granted_pool = pool_granted policy found.state (pool_paged policy found.state (pool_revoked policy found.state found.pool)) in
-    let wait = blocks_in found.state in
+    let blocks = blocks_in found.state in
     let after = history_by policy w lines h in
-    let last = reclaimed-told policy found.state found.pool after (lines-told policy lines (opened w) (history_after_service (guests_of w) h) (opened-told w h sound known)) in
+    let last = reclaimed-told policy found.state found.pool after (lines-told policy lines (opened_boundary w) (history_after_service (guests_of w) h) (opened_boundary-told w h sound known)) in
     record {
-      served = served-orders wait granted_pool last.0;
-      no_reads = no_reads-orders wait granted_pool;
-      written = told-orders wait granted_pool after last.1;
+      served = served-orders blocks granted_pool last.0;
+      no_reads = no_reads-orders blocks granted_pool;
+      written = told-orders blocks granted_pool after last.1;
     }
 
 pub given-ordered : (w : World) (h : History) → IsSoundWorld w → IsGiven w h → AreAll IsOrdered (guests_of w) h

@@ -2,7 +2,7 @@
 use Rattle.std.specs.Prelude.{ℕ, zero, suc, List, [], map}
 use Rattle.vm_domains.specs.Domains.{Domain}
 use Rattle.vm_domains.specs.Machine.{MachineConfig}
-use Rattle.vm_host.specs.Boundary.{past_boundary_by, opened}
+use Rattle.vm_host.specs.Boundary.{past_boundary_by, opened_boundary}
 use Rattle.vm_host.specs.Epoch.{after_epoch}
 use Rattle.vm_host.specs.History.{history_after_epoch, history_after_lines, history_after_service}
 use Rattle.vm_host.specs.World.{World, first_world, with_pool}
@@ -49,7 +49,7 @@ no_history guests = map (λ _. []) guests
 
 -- what happened to each guest, once a boundary with these lines is done: its device was served, and the lines were obeyed
 abbrev pub history_by : Policy → World → List (List ℕ) → History → History
-history_by policy w lines h = history_after_lines policy (opened w) (history_after_service (guests_of w) h) lines
+history_by policy w lines h = history_after_lines policy (opened_boundary w) (history_after_service (guests_of w) h) lines
 
 -- what happened to each guest in so many epochs
 abbrev pub history_after : Run → ℕ → History

@@ -9,7 +9,7 @@ use Rattle.vm_config.specs.Migration.{in_hundredths, migrated}
 use Rattle.vm_host.specs.declared.boundary.Boundary.{Boundary}
 use Rattle.vm_host.specs.declared.boundary.Refusal.{Refusal}
 use Rattle.vm_host.specs.Answers.{AnswerValue}
-use Rattle.vm_host.specs.Boundary.{past_boundary_by, boundary_by, finished, opened, boundary_after_lines}
+use Rattle.vm_host.specs.Boundary.{past_boundary_by, done_in, finished, opened_boundary, done_after_lines}
 use Rattle.vm_host.specs.Commands.{after_line, after_lines, answer_to, answers_to, decided}
 use Rattle.vm_host.specs.Decisions.{◌>>=◌, Admitted, admission_of, decision_on, decision_on_line, readable}
 use Rattle.vm_host.specs.Epoch.{after_epoch}
@@ -67,17 +67,17 @@ module _ (policy : Policy) where
   finished-converted : (w : World) → finished policy (converted w) ≡ converted (finished policy w)
   finished-converted w = refl
 
-  told-converted : (w : World) (answers : List AnswerValue) → boundary_after_lines policy (converted w) answers ≡ boundary_after_lines policy w answers
+  told-converted : (w : World) (answers : List AnswerValue) → done_after_lines policy (converted w) answers ≡ done_after_lines policy w answers
   told-converted w answers = refl
 
   bounded-converted : (w : World) (lines : List (List ℕ)) → past_boundary_by policy (converted w) lines ≡ converted (past_boundary_by policy w lines)
   bounded-converted w lines =
-      ap (finished policy) (lines-converted lines (opened w)) ∙ finished-converted (after_lines policy (opened w) lines)
+      ap (finished policy) (lines-converted lines (opened_boundary w)) ∙ finished-converted (after_lines policy (opened_boundary w) lines)
 
-  boundary-converted : (w : World) (lines : List (List ℕ)) → boundary_by policy (converted w) lines ≡ boundary_by policy w lines
+  boundary-converted : (w : World) (lines : List (List ℕ)) → done_in policy (converted w) lines ≡ done_in policy w lines
   boundary-converted w lines =
-      (λ i. boundary_after_lines policy (lines-converted lines (opened w) i) (answers-converted lines (opened w) i))
-      ∙ told-converted (after_lines policy (opened w) lines) (answers_to policy (opened w) lines)
+      (λ i. done_after_lines policy (lines-converted lines (opened_boundary w) i) (answers-converted lines (opened_boundary w) i))
+      ∙ told-converted (after_lines policy (opened_boundary w) lines) (answers_to policy (opened_boundary w) lines)
 
 -- ---- texts name no tax and no percents
 

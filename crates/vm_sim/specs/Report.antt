@@ -13,7 +13,7 @@ use Rattle.vm_plan.specs.declared.stretch.Stretch.{Stretch}
 use Rattle.vm_plan.specs.Stretches.{stretches_of}
 use Rattle.vm_pool.specs.Pool.{total_held}
 use Rattle.vm_pool.specs.Readers.{stalled_of}
-use Rattle.vm_reclaim.specs.declared.told.Paged.{Paged}
+use Rattle.vm_reclaim.specs.declared.lists.Paged.{Paged}
 use Rattle.vm_reclaim.specs.Policy.{Policy}
 use Rattle.vm_runs.specs.Course.{Run, host_after}
 use Rattle.vm_sim.specs.Course.{after_boundary, course_by, course_of, next_world, boundary_of_lines}

@@ -7,7 +7,7 @@ use Rattle.std.proofs.lemmas.Option.{none-some}
 use Rattle.vm_guest.specs.Boundary.{released, surplus}
 use Rattle.vm_guest.specs.Record.{GuestRecord}
 use Rattle.vm_pool.specs.Changes.{AreReleasable}
-use Rattle.vm_pool.specs.Guests.{Guests, each_changed, each_released, guest_changed, guest_in, number_of, total, EachRunning}
+use Rattle.vm_pool.specs.Guests.{Guests, each_changed, each_released, guest_changed, guest_in, of_running, total, EachRunning}
 
 -- what a guest is before a call, and after it
 abbrev pub Step : Type 1
@@ -107,7 +107,7 @@ total-become R number keeps [] (new ∷ news) steps = absurd steps
 total-become R number keeps (old ∷ olds) [] steps = absurd steps
 total-become R number keeps (old ∷ olds) (new ∷ news) steps = ap₂ (λ n m. n + m) (one old new steps.0) (total-become R number keeps olds news steps.1)
   where
-    one : (old new : Option GuestRecord) → Becomes R old new → number_of number new ≡ number_of number old
+    one : (old new : Option GuestRecord) → Becomes R old new → of_running number new ≡ of_running number old
     one None None step = refl
     one None (Some new) step = absurd step
     one (Some old) None step = absurd step

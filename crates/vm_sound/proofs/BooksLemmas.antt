@@ -51,8 +51,8 @@ books-serviced machine p = books-all machine serviced p booked-serviced
 pub books-spares : (machine : MachineConfig) (p : PoolView) → accounts_of machine (with_spares_back p).guests ≡ accounts_of machine p.guests
 books-spares machine p = books-all machine without_spares p booked-spares
 
-pub books-orders : (machine : MachineConfig) (wait : Bool) (p : PoolView) → accounts_of machine (with_orders wait p).guests ≡ accounts_of machine p.guests
-books-orders machine wait p = books-all machine (λ g. ordered g (blocked_above wait g)) p (λ g. booked-ordered (blocked_above wait g) g)
+pub books-orders : (machine : MachineConfig) (blocks : Bool) (p : PoolView) → accounts_of machine (with_orders blocks p).guests ≡ accounts_of machine p.guests
+books-orders machine blocks p = books-all machine (λ g. ordered g (blocked_above blocks g)) p (λ g. booked-ordered (blocked_above blocks g) g)
 
 pub books-epoch : (machine : MachineConfig) (p : PoolView) → accounts_of machine (after_epoch p).guests ≡ accounts_of machine p.guests
 books-epoch machine p = books-all machine epoch p booked-epoch

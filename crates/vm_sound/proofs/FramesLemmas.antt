@@ -10,7 +10,7 @@ use Rattle.vm_guest.specs.Record.{GuestRecord}
 use Rattle.vm_guest.proofs.EpochLemmas.{epoch-held, serviced-held}
 use Rattle.vm_pool.specs.Changes.{after_epoch, all_changed, changed, frames_to_grant, frames_to_start, granted_at, lacking, released_at, started_at, stopped_at, surplus_of, taken_at, blocked_above, with_min_at, with_orders, with_released, with_spares_back, with_started, AreReleasable}
 use Rattle.vm_pool.specs.CanMove.{CanGrant}
-use Rattle.vm_pool.specs.Guests.{Guests, each_released, number_of, sum_of}
+use Rattle.vm_pool.specs.Guests.{Guests, each_released, of_running, sum_of}
 use Rattle.vm_pool.specs.Pool.{PoolView, guest_at, running_count, total_held, Conserves}
 use Rattle.vm_pool.proofs.ConservesLemmas.{conserves-all_changed, conserves-changed, conserves-granted as granted-one, conserves-released as released-one, conserves-spares as spares-all, conserves-started as started-one, conserves-stopped as stopped-one, conserves-with_min as with_min-one}
 use Rattle.vm_pool.proofs.MoveLemmas.{held-released}
@@ -26,8 +26,8 @@ conserves-serviced p all = conserves-all_changed serviced p serviced-held all
 pub conserves-spares : (p : PoolView) → Conserves p → Conserves (with_spares_back p)
 conserves-spares p all = spares-all p all
 
-pub conserves-orders : (wait : Bool) (p : PoolView) → Conserves p → Conserves (with_orders wait p)
-conserves-orders wait p all = conserves-all_changed (λ g. ordered g (blocked_above wait g)) p (λ g. refl) all
+pub conserves-orders : (blocks : Bool) (p : PoolView) → Conserves p → Conserves (with_orders blocks p)
+conserves-orders blocks p all = conserves-all_changed (λ g. ordered g (blocked_above blocks g)) p (λ g. refl) all
 
 pub conserves-epoch : (p : PoolView) → Conserves p → Conserves (after_epoch p)
 conserves-epoch p all = conserves-all_changed epoch p epoch-held all
@@ -65,7 +65,7 @@ conserves-revoked p k all = conserves-changed revoked p k (λ g. refl) all
 -- a guest that lost a page of its target holds a frame above it
 frame-above : (p : PoolView) (k : ℕ) → HasFrameAt p k → 1 ≤ surplus_of (guest_at (changed revoked p k) k)
 frame-above p k frame =
-    let same = ap (number_of surplus) (in-changed revoked p.guests k ∙ ap (option_map revoked) frame.here) in
+    let same = ap (of_running surplus) (in-changed revoked p.guests k ∙ ap (option_map revoked) frame.here) in
     let above = frame.above in
     let held = frame.held in
     omega (arith, same, above, held)

@@ -20,9 +20,9 @@ served-serviced p = served-serve_all p
 pub served-spares : (p : PoolView) → EachGuest HasNothingPosted p → EachGuest HasNothingPosted (with_spares_back p)
 served-spares p served = served-spares_back_all p served
 
-pub served-orders : (wait : Bool) (p : PoolView) → EachGuest HasNothingPosted p → EachGuest HasNothingPosted (with_orders wait p)
-served-orders wait p served =
-    each-all HasNothingPosted (λ g. ordered g (blocked_above wait g)) p (λ g nothing. ordered-nothing_posted g (blocked_above wait g) nothing) served
+pub served-orders : (blocks : Bool) (p : PoolView) → EachGuest HasNothingPosted p → EachGuest HasNothingPosted (with_orders blocks p)
+served-orders blocks p served =
+    each-all HasNothingPosted (λ g. ordered g (blocked_above blocks g)) p (λ g nothing. ordered-nothing_posted g (blocked_above blocks g) nothing) served
 
 served-each_released : (counts : List ℕ) (guests : Guests) → All (λ o. IfSome o HasNothingPosted) guests → All (λ o. IfSome o HasNothingPosted) (each_released counts guests)
 served-each_released [] guests served = served

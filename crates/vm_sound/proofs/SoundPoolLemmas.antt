@@ -59,9 +59,9 @@ sound-serviced p sound = sound-all serviced p p.free (each-step StaysGood servic
 pub sound-spares : (p : PoolView) → IsSoundPool p → IsSoundPool (with_spares_back p)
 sound-spares p sound = sound-all without_spares p (with_spares_back p).free (each-step StaysGood without_spares p.guests good-spares) sound
 
-pub sound-orders : (wait : Bool) (p : PoolView) → IsSoundPool p → IsSoundPool (with_orders wait p)
-sound-orders wait p sound =
-    sound-all (λ g. ordered g (blocked_above wait g)) p p.free (each-step StaysGood (λ g. ordered g (blocked_above wait g)) p.guests (λ g. good-ordered (blocked_above wait g) g)) sound
+pub sound-orders : (blocks : Bool) (p : PoolView) → IsSoundPool p → IsSoundPool (with_orders blocks p)
+sound-orders blocks p sound =
+    sound-all (λ g. ordered g (blocked_above blocks g)) p p.free (each-step StaysGood (λ g. ordered g (blocked_above blocks g)) p.guests (λ g. good-ordered (blocked_above blocks g) g)) sound
 
 pub sound-epoch : (p : PoolView) → EachGuest HasNothingPosted p → IsSoundPool p → IsSoundPool (after_epoch p)
 sound-epoch p served sound =

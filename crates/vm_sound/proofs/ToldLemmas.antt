@@ -95,8 +95,8 @@ told-at change p k h step all =
 pub told-spares : (p : PoolView) (h : History) → AreAll IsWrittenBy p.guests h → AreAll IsWrittenBy (with_spares_back p).guests h
 told-spares p h all = told-all without_spares p h one-spares all
 
-pub told-orders : (wait : Bool) (p : PoolView) (h : History) → AreAll IsWrittenBy p.guests h → AreAll IsWrittenBy (with_orders wait p).guests h
-told-orders wait p h all = told-all (λ g. ordered g (blocked_above wait g)) p h (λ g. one-ordered (blocked_above wait g) g) all
+pub told-orders : (blocks : Bool) (p : PoolView) (h : History) → AreAll IsWrittenBy p.guests h → AreAll IsWrittenBy (with_orders blocks p).guests h
+told-orders blocks p h all = told-all (λ g. ordered g (blocked_above blocks g)) p h (λ g. one-ordered (blocked_above blocks g) g) all
 
 become-each_released : (counts : List ℕ) (guests : Guests) → EachBecomes StaysWritten guests (each_released counts guests)
 become-each_released [] guests = become-none StaysWritten written-none guests
@@ -250,8 +250,8 @@ ordered-of (Some g ∷ guests) (before ∷ h) good served none all = (
       (All-tail (λ o. IfSome o (λ g. g.reads ≡ [])) (Some g) guests none) all.1,
 )
 
-pub no_reads-orders : (wait : Bool) (p : PoolView) → EachGuest (λ g. g.reads ≡ []) (with_orders wait p)
-no_reads-orders wait p = each-made (λ g. g.reads ≡ []) (λ g. ordered g (blocked_above wait g)) p (λ g. refl)
+pub no_reads-orders : (blocks : Bool) (p : PoolView) → EachGuest (λ g. g.reads ≡ []) (with_orders blocks p)
+no_reads-orders blocks p = each-made (λ g. g.reads ≡ []) (λ g. ordered g (blocked_above blocks g)) p (λ g. refl)
 
 -- ---- an epoch
 

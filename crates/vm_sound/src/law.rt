@@ -19,7 +19,7 @@ ghost use Rattle.vm_sound.specs.Written.{History, happenings_at, with_happenings
 pub fn law_sound()
     ensures serviced { (p : PoolView) → IsSoundPool p → IsSoundPool (all_changed serviced p) }
     ensures spares { (p : PoolView) → IsSoundPool p → IsSoundPool (with_spares_back p) }
-    ensures orders { (wait : Bool) (p : PoolView) → IsSoundPool p → IsSoundPool (with_orders wait p) }
+    ensures orders { (blocks : Bool) (p : PoolView) → IsSoundPool p → IsSoundPool (with_orders blocks p) }
     ensures epoch { (p : PoolView) → EachGuest HasNothingPosted p → IsSoundPool p → IsSoundPool (after_epoch p) }
     ensures released { (counts : List ℕ) (p : PoolView) → AreReleasable counts p.guests → IsSoundPool p → IsSoundPool (with_released counts p) }
     ensures released_at { (count : ℕ) (p : PoolView) (k : ℕ) → IfSome (guest_at p k) (λ g. count ≤ surplus g) → IsSoundPool p
@@ -47,7 +47,7 @@ pub fn law_sound()
 pub fn law_frames()
     ensures serviced { (p : PoolView) → Conserves p → Conserves (all_changed serviced p) }
     ensures spares { (p : PoolView) → Conserves p → Conserves (with_spares_back p) }
-    ensures orders { (wait : Bool) (p : PoolView) → Conserves p → Conserves (with_orders wait p) }
+    ensures orders { (blocks : Bool) (p : PoolView) → Conserves p → Conserves (with_orders blocks p) }
     ensures epoch { (p : PoolView) → Conserves p → Conserves (after_epoch p) }
     ensures released { (counts : List ℕ) (p : PoolView) → AreReleasable counts p.guests → length counts ≡ length p.guests → Conserves p
         → Conserves (with_released counts p) }
@@ -70,7 +70,7 @@ pub fn law_frames()
 pub fn law_served()
     ensures serviced { (p : PoolView) → EachGuest HasNothingPosted (all_changed serviced p) }
     ensures spares { (p : PoolView) → EachGuest HasNothingPosted p → EachGuest HasNothingPosted (with_spares_back p) }
-    ensures orders { (wait : Bool) (p : PoolView) → EachGuest HasNothingPosted p → EachGuest HasNothingPosted (with_orders wait p) }
+    ensures orders { (blocks : Bool) (p : PoolView) → EachGuest HasNothingPosted p → EachGuest HasNothingPosted (with_orders blocks p) }
     ensures released { (counts : List ℕ) (p : PoolView) → EachGuest HasNothingPosted p → EachGuest HasNothingPosted (with_released counts p) }
     ensures released_at { (count : ℕ) (p : PoolView) (k : ℕ) → EachGuest HasNothingPosted p → EachGuest HasNothingPosted (released_at count p k) }
     ensures revoked { (p : PoolView) (k : ℕ) → EachGuest HasNothingPosted p → EachGuest HasNothingPosted (changed revoked p k) }
@@ -92,7 +92,7 @@ pub fn law_served()
 pub fn law_books()
     ensures serviced { (machine : MachineConfig) (p : PoolView) → accounts_of machine (all_changed serviced p).guests ≡ accounts_of machine p.guests }
     ensures spares { (machine : MachineConfig) (p : PoolView) → accounts_of machine (with_spares_back p).guests ≡ accounts_of machine p.guests }
-    ensures orders { (machine : MachineConfig) (wait : Bool) (p : PoolView) → accounts_of machine (with_orders wait p).guests ≡ accounts_of machine p.guests }
+    ensures orders { (machine : MachineConfig) (blocks : Bool) (p : PoolView) → accounts_of machine (with_orders blocks p).guests ≡ accounts_of machine p.guests }
     ensures epoch { (machine : MachineConfig) (p : PoolView) → accounts_of machine (after_epoch p).guests ≡ accounts_of machine p.guests }
     ensures released { (machine : MachineConfig) (counts : List ℕ) (p : PoolView) → accounts_of machine (with_released counts p).guests ≡ accounts_of machine p.guests }
     ensures released_at { (machine : MachineConfig) (count : ℕ) (p : PoolView) (k : ℕ) → accounts_of machine (released_at count p k).guests ≡ accounts_of machine p.guests }
@@ -117,7 +117,7 @@ pub fn law_books()
 /// The memory of each guest is that of the last writes after each call.
 pub fn law_told()
     ensures spares { (p : PoolView) (h : History) → AreAll IsWrittenBy p.guests h → AreAll IsWrittenBy (with_spares_back p).guests h }
-    ensures orders { (wait : Bool) (p : PoolView) (h : History) → AreAll IsWrittenBy p.guests h → AreAll IsWrittenBy (with_orders wait p).guests h }
+    ensures orders { (blocks : Bool) (p : PoolView) (h : History) → AreAll IsWrittenBy p.guests h → AreAll IsWrittenBy (with_orders blocks p).guests h }
     ensures released { (counts : List ℕ) (p : PoolView) (h : History) → AreAll IsWrittenBy p.guests h → AreAll IsWrittenBy (with_released counts p).guests h }
     ensures released_at { (count : ℕ) (p : PoolView) (k : ℕ) (h : History) → AreAll IsWrittenBy p.guests h → AreAll IsWrittenBy (released_at count p k).guests h }
     ensures revoked { (p : PoolView) (k : ℕ) (h : History) → AreAll IsWrittenBy p.guests h → AreAll IsWrittenBy (changed revoked p k).guests h }

@@ -1,4 +1,4 @@
--- When a write is refused, what was written by then, and when a reader or a writer fails.
+-- Whether a write was refused, that a front of a text was written, and that a reader or a writer has failed since.
 use Rattle.std.specs.Prelude.{◌≡◌, ℕ, ◌==◌, ◌&&◌, List, length, take, Bool, false, true, not, Option, Result, Ok, Err}
 use Rattle.std.specs.Io.KnownBytes.{Appends}
 

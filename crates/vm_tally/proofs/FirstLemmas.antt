@@ -4,7 +4,7 @@ use Rattle.vm_config.specs.declared.config.Config.{Config}
 use Rattle.vm_domains.specs.Domains.{configs_of, names_of}
 use Rattle.vm_guest.specs.Config.{GuestConfig}
 use Rattle.vm_guest.specs.Record.{GuestRecord, ballooned, saturated, steps_left}
-use Rattle.vm_pool.specs.Guests.{guest_in, number_of}
+use Rattle.vm_pool.specs.Guests.{guest_in, of_running}
 use Rattle.vm_sim.specs.Course.{course_of}
 use Rattle.vm_tally.specs.Counting.{sum_over}
 use Rattle.vm_tally.specs.Counts.{swapped_of}
@@ -17,9 +17,9 @@ no-guest (config ∷ configs) zero = refl
 no-guest (config ∷ configs) (suc position) = no-guest configs position
 
 none-counted : (number : GuestRecord → ℕ) (configs : List GuestConfig) (n : ℕ)
-    → sum_over (λ p. number_of number (guest_in (map (λ _. None) configs) p)) n ≡ 0
+    → sum_over (λ p. of_running number (guest_in (map (λ _. None) configs) p)) n ≡ 0
 none-counted number configs zero = refl
-none-counted number configs (suc n) = λ i. none-counted number configs n i + number_of number (no-guest configs n i)
+none-counted number configs (suc n) = λ i. none-counted number configs n i + of_running number (no-guest configs n i)
 
 pub first_summary : (c : Config) → empty_summary c.machine.frames ≡ summary_after (course_of c) 0
 unfolding summary_after

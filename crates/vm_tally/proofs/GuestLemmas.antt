@@ -7,7 +7,7 @@ use Rattle.vm_domains.specs.Domains.{Domain, configs_of, names_of}
 use Rattle.vm_guest.specs.Record.{saturated}
 use Rattle.vm_host.specs.declared.boundary.Boundary.{Boundary}
 use Rattle.vm_host.specs.World.{World}
-use Rattle.vm_pool.specs.Guests.{number_of}
+use Rattle.vm_pool.specs.Guests.{of_running}
 use Rattle.vm_runs.specs.Course.{Run, host_after}
 use Rattle.vm_sim.specs.Course.{boundary_at, course_of, ready_world, world_after}
 use Rattle.vm_tally.specs.declared.guest_summary.GuestSummary.{GuestSummary}
@@ -39,8 +39,8 @@ sighting-next course p k = λ i. record {
   stalls = sum_next (stalls_in course p) k i;
   done = sum_next (done_in course p) k i;
   executed = (sighting_after course p (suc k)).executed;
-  most_swapped = greatest_more (sighting_after course p k).most_swapped (number_of swapped_of (guest_ready course p k))
-      (number_of swapped_of (guest_after course p k)) i;
+  most_swapped = greatest_more (sighting_after course p k).most_swapped (of_running swapped_of (guest_ready course p k))
+      (of_running swapped_of (guest_after course p k)) i;
 }
 
 sightings-next : (course : Run) (guests k : ℕ)
@@ -86,7 +86,7 @@ unseen-first c p = λ i. record {
   evicted = 0;
   stalls = 0;
   done = 0;
-  executed = number_of executed_by (sym (no-guest (configs_of c.domains) p) i);
+  executed = of_running executed_by (sym (no-guest (configs_of c.domains) p) i);
   most_swapped = 0;
 }
 

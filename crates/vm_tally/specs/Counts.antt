@@ -10,7 +10,7 @@ use Rattle.vm_host.specs.declared.boundary.Refusal.TheVariants.{NoSuchDomain, Al
 use Rattle.vm_host.specs.World.{World, guest_at}
 use Rattle.vm_plan.specs.declared.state.State.{State}
 use Rattle.vm_plan.specs.declared.state.State.TheVariants.{High, Soft, Hard, Low}
-use Rattle.vm_pool.specs.Guests.{number_of}
+use Rattle.vm_pool.specs.Guests.{of_running}
 use Rattle.vm_tally.specs.Counting.{one_if, sum_each, sum_over}
 
 -- ---- the state that a boundary found
@@ -89,7 +89,7 @@ paged b = sum_each (λ p. p.count) b.paged
 
 -- a number of each guest that runs, added up
 abbrev pub over_guests : (GuestRecord → ℕ) → World → ℕ
-over_guests number w = sum_over (λ position. number_of number (guest_at w position)) (length w.names)
+over_guests number w = sum_over (λ position. of_running number (guest_at w position)) (length w.names)
 
 -- the pages that touches of a guest sent to swap in its epoch, for want of a frame: its demand, where it ran
 abbrev pub evicted_from : GuestRecord → ℕ

@@ -2,7 +2,7 @@
 use Rattle.std.specs.Prelude.{ℕ, ◌+◌, ◌==◌, List, if◌then◌else◌}
 use Rattle.vm_host.specs.declared.boundary.Boundary.{Boundary}
 use Rattle.vm_host.specs.Answers.{AnswerValue}
-use Rattle.vm_reclaim.specs.declared.told.Paged.{Paged}
+use Rattle.vm_reclaim.specs.declared.lists.Paged.{Paged}
 use Rattle.vm_tally.specs.Counting.{sum_each}
 
 -- 1 where an entry names the guest

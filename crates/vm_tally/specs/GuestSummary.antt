@@ -5,7 +5,7 @@ use Rattle.std.specs.Option.{option_map}
 use Rattle.vm_config.specs.declared.config.Config.{Config}
 use Rattle.vm_guest.specs.Record.{GuestRecord, ballooned, saturated, steps_left}
 use Rattle.vm_host.specs.World.{World, guest_at}
-use Rattle.vm_pool.specs.Guests.{number_of}
+use Rattle.vm_pool.specs.Guests.{of_running}
 use Rattle.vm_runs.specs.Course.{Run, host_after}
 use Rattle.vm_sim.specs.Course.{course_of}
 use Rattle.vm_tally.specs.declared.guest_summary.AtEnd.{AtEnd}
@@ -39,7 +39,7 @@ module _ (course : Run) (position : ℕ) where
 
   -- pages that its touches sent to swap
   abbrev pub evicted_in : ℕ → ℕ
-  evicted_in k = number_of evicted_from (guest_after k)
+  evicted_in k = of_running evicted_from (guest_after k)
 
   -- entries of the boundary's grants that name it
   abbrev pub granted_in : ℕ → ℕ
@@ -51,15 +51,15 @@ module _ (course : Run) (position : ℕ) where
 
   -- 1 where it stalled
   abbrev pub stalls_in : ℕ → ℕ
-  stalls_in k = number_of has_stalled (guest_after k)
+  stalls_in k = of_running has_stalled (guest_after k)
 
   -- steps of its trace that it executed
   abbrev pub done_in : ℕ → ℕ
-  done_in k = number_of executed_by (guest_after k) - number_of executed_by (guest_ready k)
+  done_in k = of_running executed_by (guest_after k) - of_running executed_by (guest_ready k)
 
   -- the more of its pages in swap: at the end of the boundary, and of the epoch; none where it doesn't run
   abbrev pub most_swapped_in : ℕ → ℕ
-  most_swapped_in k = max (number_of swapped_of (guest_ready k)) (number_of swapped_of (guest_after k))
+  most_swapped_in k = max (of_running swapped_of (guest_ready k)) (of_running swapped_of (guest_after k))
 
 -- ---- the run
 

@@ -5,7 +5,7 @@ use Rattle.vm_guest.specs.Record.{GuestRecord, saturated}
 use Rattle.vm_host.specs.declared.boundary.Boundary.{Boundary}
 use Rattle.vm_host.specs.World.{World, guest_at}
 use Rattle.vm_plan.specs.declared.stretch.Stretch.{Stretch}
-use Rattle.vm_pool.specs.Guests.{number_of}
+use Rattle.vm_pool.specs.Guests.{of_running}
 use Rattle.vm_runs.specs.Course.{Run, host_after}
 use Rattle.vm_tally.specs.declared.guest_summary.GuestSummary.{GuestSummary}
 use Rattle.vm_tally.specs.declared.guest_sightings.Sighting.{Sighting}
@@ -46,18 +46,18 @@ unseen = record { epochs = 0; evicted = 0; stalls = 0; done = 0; executed = 0; m
 abbrev pub seen_ready : Option GuestRecord → Sighting → Sighting
 seen_ready guest s = record s {
   epochs = saturated (s.epochs + one_if (is_some guest));
-  executed = number_of executed_by guest;
-  most_swapped = max s.most_swapped (number_of swapped_of guest);
+  executed = of_running executed_by guest;
+  most_swapped = max s.most_swapped (of_running swapped_of guest);
 }
 
 -- an epoch leaves this guest, or none
 abbrev pub seen_after : Option GuestRecord → Sighting → Sighting
 seen_after guest s = record s {
-  evicted = saturated (s.evicted + number_of evicted_from guest);
-  stalls = saturated (s.stalls + number_of has_stalled guest);
-  done = saturated (s.done + (number_of executed_by guest - s.executed));
-  executed = number_of executed_by guest;
-  most_swapped = max s.most_swapped (number_of swapped_of guest);
+  evicted = saturated (s.evicted + of_running evicted_from guest);
+  stalls = saturated (s.stalls + of_running has_stalled guest);
+  done = saturated (s.done + (of_running executed_by guest - s.executed));
+  executed = of_running executed_by guest;
+  most_swapped = max s.most_swapped (of_running swapped_of guest);
 }
 
 abbrev pub all_seen_ready : World → List Sighting → List Sighting
@@ -111,7 +111,7 @@ sighting_after course position n = record {
   evicted = saturated (sum_over (evicted_in course position) n);
   stalls = saturated (sum_over (stalls_in course position) n);
   done = saturated (sum_over (done_in course position) n);
-  executed = number_of executed_by (guest_at (host_after course n) position);
+  executed = of_running executed_by (guest_at (host_after course n) position);
   most_swapped = greatest_over (most_swapped_in course position) n;
 }
 

@@ -2,7 +2,7 @@
 ghost use Rattle.std.specs.Prelude.{◌≡◌, ◌<◌, ◌≤◌, ◌^◌, if◌then◌else◌};
 ghost use Rattle.vm_guest.specs.Record.{ballooned, saturated, steps_left};
 ghost use Rattle.vm_host.specs.World.{guest_at};
-ghost use Rattle.vm_pool.specs.Guests.{number_of};
+ghost use Rattle.vm_pool.specs.Guests.{of_running};
 ghost use Rattle.vm_tally.specs.Counts.{evicted_from, executed_by, has_stalled, over_guests, swapped_of};
 
 use vm_host::{GuestView, Host};
@@ -36,19 +36,19 @@ fn evicted_from(view: &GuestView) -> u64
 
 // The steps that the guest at a position has not executed, if one runs there.
 pub(crate) fn left_at(host: &Host, position: usize) -> u64
-    ensures { result ≡ number_of steps_left (guest_at host.now position) }
+    ensures { result ≡ of_running steps_left (guest_at host.now position) }
 {
     host.steps_left(position).unwrap_or(0)
 }
 
 // Those of the guest at a position, if one runs there.
 pub(crate) fn counts_at(host: &Host, position: usize) -> GuestCounts
-    ensures swapped { result.swapped ≡ number_of swapped_of (guest_at host.now position) }
-    ensures balloon { result.balloon ≡ number_of ballooned (guest_at host.now position) }
-    ensures executed { result.executed ≡ number_of executed_by (guest_at host.now position) }
-    ensures left { result.left ≡ number_of steps_left (guest_at host.now position) }
-    ensures evicted { result.evicted ≡ number_of evicted_from (guest_at host.now position) }
-    ensures stalled { result.stalled ≡ number_of has_stalled (guest_at host.now position) }
+    ensures swapped { result.swapped ≡ of_running swapped_of (guest_at host.now position) }
+    ensures balloon { result.balloon ≡ of_running ballooned (guest_at host.now position) }
+    ensures executed { result.executed ≡ of_running executed_by (guest_at host.now position) }
+    ensures left { result.left ≡ of_running steps_left (guest_at host.now position) }
+    ensures evicted { result.evicted ≡ of_running evicted_from (guest_at host.now position) }
+    ensures stalled { result.stalled ≡ of_running has_stalled (guest_at host.now position) }
     ensures few_swapped { result.swapped < 2 ^ 32 }
     ensures few_ballooned { result.balloon < 2 ^ 32 }
     ensures few_executed { result.executed < 2 ^ 32 }

@@ -9,7 +9,7 @@ use Rattle.vm_host.specs.declared.boundary.Refusal.{Refusal}
 use Rattle.vm_host.specs.World.{World, guest_at}
 use Rattle.vm_plan.specs.declared.state.State.{State}
 use Rattle.vm_plan.specs.Stretches.{stretches_of}
-use Rattle.vm_pool.specs.Guests.{number_of}
+use Rattle.vm_pool.specs.Guests.{of_running}
 use Rattle.vm_pool.specs.Readers.{stalled_of}
 use Rattle.vm_runs.specs.Course.{Run, host_after}
 use Rattle.vm_sim.specs.Course.{course_of}
@@ -75,7 +75,7 @@ module _ (w : World) (k : ℕ) (b : Boundary) where
 
 -- ---- what an epoch counts
 
-stalled-page : (name : List ℕ) (g : Option GuestRecord) → sum_each stalling (stalls_of name (stalled_of g)) ≡ number_of has_stalled g
+stalled-page : (name : List ℕ) (g : Option GuestRecord) → sum_each stalling (stalls_of name (stalled_of g)) ≡ of_running has_stalled g
 stalled-page name None = refl
 stalled-page name (Some g) = go g.progress.stalled_on
   where
@@ -86,28 +86,28 @@ stalled-page name (Some g) = go g.progress.stalled_on
 stalling-epoch : (w : World) → sum_each stalling (lines_of_epoch w) ≡ over_guests has_stalled w
 stalling-epoch w =
     of-epoch stalling w
-    ∙ over-same (λ p. sum_each stalling (lines_of_guest w p)) (λ p. number_of has_stalled (guest_at w p)) (length w.names)
+    ∙ over-same (λ p. sum_each stalling (lines_of_guest w p)) (λ p. of_running has_stalled (guest_at w p)) (length w.names)
     (λ p. of-guest stalling w p (λ read. refl) ∙ stalled-page (name_at w p) (guest_at w p))
 
 -- ---- what the end counts
 
-swapped-guest : (name : List ℕ) (g : Option GuestRecord) → sum_each swapped_at_end (guest_at_end name g) ≡ number_of swapped_of g
+swapped-guest : (name : List ℕ) (g : Option GuestRecord) → sum_each swapped_at_end (guest_at_end name g) ≡ of_running swapped_of g
 swapped-guest name None = refl
 swapped-guest name (Some g) = omega arith
 
-balloon-guest : (name : List ℕ) (g : Option GuestRecord) → sum_each balloon_at_end (guest_at_end name g) ≡ number_of ballooned g
+balloon-guest : (name : List ℕ) (g : Option GuestRecord) → sum_each balloon_at_end (guest_at_end name g) ≡ of_running ballooned g
 balloon-guest name None = refl
 balloon-guest name (Some g) = omega arith
 
 swapped-end : (w : World) → sum_each swapped_at_end (lines_at_end w) ≡ over_guests swapped_of w
 swapped-end w =
-    let all = over-same (λ p. sum_each swapped_at_end (guest_at_end (name_at w p) (guest_at w p))) (λ p. number_of swapped_of (guest_at w p)) (length w.names)
+    let all = over-same (λ p. sum_each swapped_at_end (guest_at_end (name_at w p) (guest_at w p))) (λ p. of_running swapped_of (guest_at w p)) (length w.names)
     (λ p. swapped-guest (name_at w p) (guest_at w p)) in
     omega (arith, of-end swapped_at_end w, all)
 
 balloon-end : (w : World) → sum_each balloon_at_end (lines_at_end w) ≡ over_guests ballooned w
 balloon-end w =
-    let all = over-same (λ p. sum_each balloon_at_end (guest_at_end (name_at w p) (guest_at w p))) (λ p. number_of ballooned (guest_at w p)) (length w.names)
+    let all = over-same (λ p. sum_each balloon_at_end (guest_at_end (name_at w p) (guest_at w p))) (λ p. of_running ballooned (guest_at w p)) (length w.names)
     (λ p. balloon-guest (name_at w p) (guest_at w p)) in
     omega (arith, of-end balloon_at_end w, all)
 

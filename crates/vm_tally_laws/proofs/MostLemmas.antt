@@ -11,7 +11,7 @@ use Rattle.vm_guest.specs.Pieces.{pieces}
 use Rattle.vm_guest.specs.Record.{GuestRecord}
 use Rattle.vm_guest.proofs.PieceLemmas.{pieces-epoch}
 use Rattle.vm_host.specs.World.{guest_at}
-use Rattle.vm_pool.specs.Guests.{Guests, each_changed, guest_in, number_of, running}
+use Rattle.vm_pool.specs.Guests.{Guests, each_changed, guest_in, of_running, running}
 use Rattle.vm_runs.specs.Served.{IsServed, LawOfCourse}
 use Rattle.vm_runs.specs.Course.{Run}
 use Rattle.vm_sim.specs.Course.{after_boundary, course_of, lines_at}
@@ -79,12 +79,12 @@ entry-of (Some guest) g is = ap Some is
 
 -- both numbers of the guest at a position in epoch k
 ready-number : (course : Run) (k position : ℕ) (g : GuestRecord) → guest_at (ready_in course k) position ≡ Some g
-    → number_of swapped_of (guest_at (ready_in course k) position) ≡ swapped_of g
-ready-number course k position g is = ap (number_of swapped_of) is
+    → of_running swapped_of (guest_at (ready_in course k) position) ≡ swapped_of g
+ready-number course k position g is = ap (of_running swapped_of) is
 
 after-number : (course : Run) (k position : ℕ) (g : GuestRecord) → guest_at (ready_in course k) position ≡ Some g
-    → number_of swapped_of (guest_at (after_in course k) position) ≡ swapped_of (epoch g)
-after-number course k position g is = ap (number_of swapped_of) (after-at course k position ∙ ap (option_map epoch) is)
+    → of_running swapped_of (guest_at (after_in course k) position) ≡ swapped_of (epoch g)
+after-number course k position g is = ap (of_running swapped_of) (after-at course k position ∙ ap (option_map epoch) is)
 
 -- a fact of the guest at a position, if there is one
 if-there : (P : GuestRecord → Type 0) (guest : Option GuestRecord) → ((g : GuestRecord) → guest ≡ Some g → P g) → IfSome guest P
@@ -119,18 +119,18 @@ module _ (c : Config) (is : IsConfig c) (law : LawOfCourse)
       let one = one-of_greatest (most_of_guest course position) c.epochs k within in
       omega (arith, most, one, ready-number course k position g here, after-number course k position g here))
 
-  guest-zero : (k position : ℕ) → k < c.epochs → NothingInSwap c → number_of swapped_of (guest_at (ready_in course k) position) ≡ 0
+  guest-zero : (k position : ℕ) → k < c.epochs → NothingInSwap c → of_running swapped_of (guest_at (ready_in course k) position) ≡ 0
   guest-zero k position within nothing = go (guest_at (ready_in course k) position) (nothing k position within)
     where
-      go : (guest : Option GuestRecord) → IfSome guest (λ g. (n : ℕ) → n ≤ pieces g → swapped_after n g ≡ 0) → number_of swapped_of guest ≡ 0
+      go : (guest : Option GuestRecord) → IfSome guest (λ g. (n : ℕ) → n ≤ pieces g → swapped_after n g ≡ 0) → of_running swapped_of guest ≡ 0
       go None fact = refl
       go (Some g) fact = fact 0 (omega arith)
 
-  guest-zero_after : (k position : ℕ) → k < c.epochs → NothingInSwap c → number_of swapped_of (guest_at (after_in course k) position) ≡ 0
+  guest-zero_after : (k position : ℕ) → k < c.epochs → NothingInSwap c → of_running swapped_of (guest_at (after_in course k) position) ≡ 0
   guest-zero_after k position within nothing =
-      ap (number_of swapped_of) (after-at course k position) ∙ go (guest_at (ready_in course k) position) (nothing k position within)
+      ap (of_running swapped_of) (after-at course k position) ∙ go (guest_at (ready_in course k) position) (nothing k position within)
     where
-      go : (guest : Option GuestRecord) → IfSome guest (λ g. (n : ℕ) → n ≤ pieces g → swapped_after n g ≡ 0) → number_of swapped_of (option_map epoch guest) ≡ 0
+      go : (guest : Option GuestRecord) → IfSome guest (λ g. (n : ℕ) → n ≤ pieces g → swapped_after n g ≡ 0) → of_running swapped_of (option_map epoch guest) ≡ 0
       go None fact = refl
       go (Some g) fact = ap swapped_of (sym (pieces-epoch g)) ∙ fact (pieces g) (omega arith)
 
@@ -139,9 +139,9 @@ module _ (c : Config) (is : IsConfig c) (law : LawOfCourse)
   nothing-is_none nothing =
       greatest-of_zeros (most_swapped_in course) c.epochs
       (λ k within.
-      let ready = sum-of_zeros (λ p. number_of swapped_of (guest_at (ready_in course k) p)) (length (ready_in course k).names)
+      let ready = sum-of_zeros (λ p. of_running swapped_of (guest_at (ready_in course k) p)) (length (ready_in course k).names)
       (λ p. guest-zero k p within nothing) in
-      let after = sum-of_zeros (λ p. number_of swapped_of (guest_at (after_in course k) p)) (length (after_in course k).names)
+      let after = sum-of_zeros (λ p. of_running swapped_of (guest_at (after_in course k) p)) (length (after_in course k).names)
       (λ p. guest-zero_after k p within nothing) in
       omega (arith, ready, after))
 
@@ -165,8 +165,8 @@ module _ (c : Config) (is : IsConfig c) (law : LawOfCourse)
       let most = ready-at_an_end k position g here n few in
       let whole = one-of_greatest (most_swapped_in course) c.epochs k within in
       let below = position-within k position g here in
-      let ready = part-of_sum (λ p. number_of swapped_of (guest_at (ready_in course k) p)) (length (ready_in course k).names) position below.0 in
-      let after = part-of_sum (λ p. number_of swapped_of (guest_at (after_in course k) p)) (length (after_in course k).names) position below.1 in
+      let ready = part-of_sum (λ p. of_running swapped_of (guest_at (ready_in course k) p)) (length (ready_in course k).names) position below.0 in
+      let after = part-of_sum (λ p. of_running swapped_of (guest_at (after_in course k) p)) (length (after_in course k).names) position below.1 in
       omega (arith, none, most, whole, ready, after, ready-number course k position g here, after-number course k position g here))
 
   pub is-none_exactly : IsNoneExactly c

@@ -12,7 +12,7 @@ use Rattle.vm_config.specs.Keys.{number_or, objects_in, objects_or_none, require
 use Rattle.vm_config.specs.Migration.{migrated}
 use Rattle.vm_config.specs.Names.{is_name, is_name_byte}
 use Rattle.vm_config.specs.Outcomes.{◌>>=◌}
-use Rattle.vm_config.specs.Reading.{commands_from, config_in, config_of, fresh_name, guest_in, guests_from, keys_in, machine_in, name_in, root_in, version_in}
+use Rattle.vm_config.specs.Reading.{commands_from, config_in, config_of, fresh_name, listed_in, guests_from, keys_in, machine_in, name_in, root_in, version_in}
 use Rattle.vm_config.specs.Versions.{version_1, version_2}
 use Rattle.vm_domains.specs.Domains.{Domain, names_of, position_of}
 use Rattle.vm_tally.specs.GuestTable.{name_at}
@@ -82,8 +82,8 @@ fresh-is_name earlier name = go (is_name name) (is_some (position_of name earlie
 name-read : (earlier : List Domain) (found : Option Data) → IfOk (name_in earlier found) HasName
 name-read earlier found = next-ok (List ℕ) HasName (List ℕ) (text_in found) (fresh_name earlier) (fresh-is_name earlier)
 
-guest-read : (limits : _) (quantum : ℕ) (d : Data) (earlier : List Domain) → IfOk (guest_in limits quantum d earlier) IsNamed
-unfolding guest_in
+guest-read : (limits : _) (quantum : ℕ) (d : Data) (earlier : List Domain) → IfOk (listed_in limits quantum d earlier) IsNamed
+unfolding listed_in
 guest-read limits quantum d earlier =
     known-ok Listed IsNamed (List ℕ) (name_in earlier (get (codes "name") d)) HasName _ (name-read earlier (get (codes "name") d))
     (λ name named. search (next-ok Listed IsNamed, named) depth 30)
@@ -96,7 +96,7 @@ guests-read : (limits : _) (quantum : ℕ) (ds : List Data) (domains : List Doma
     → IfOk (guests_from limits quantum ds (record { domains = domains; autostart = autostart })) (λ g. AreNamed g.domains)
 guests-read limits quantum [] domains autostart are = are
 guests-read limits quantum (d ∷ ds) domains autostart are =
-    known-ok _ (λ g. AreNamed g.domains) Listed (guest_in limits quantum d domains) IsNamed _ (guest-read limits quantum d domains)
+    known-ok _ (λ g. AreNamed g.domains) Listed (listed_in limits quantum d domains) IsNamed _ (guest-read limits quantum d domains)
     (λ listed named. guests-read limits quantum ds (domains ++ listed.domain ∷ []) (autostart ++ listed.autostart ∷ []) (named-more domains listed.domain are named))
 
 -- the rest of a configuration, once its guests are read

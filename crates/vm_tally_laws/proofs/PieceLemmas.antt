@@ -8,7 +8,7 @@ use Rattle.vm_guest.specs.Memory.{Memory, has_spare, is_out_place, is_resident, 
 use Rattle.vm_guest.specs.Pieces.{after_pieces, piece, pieces}
 use Rattle.vm_guest.specs.Record.{GuestRecord, is_ballooned}
 use Rattle.vm_guest.specs.Steps.{after_step, current_step, effect, executed, has_stalled, most_raw_posts, one_step, sampled, stall_of}
-use Rattle.vm_guest.specs.Touch.{evicted, framed, lacking, marked_used, placed_in, taken_early, touched}
+use Rattle.vm_guest.specs.Touch.{evicted, framed, with_demand, marked_used, placed_in, taken_early, touched}
 use Rattle.vm_guest.proofs.MemoryLemmas.{all_resident, resident-placed, resident-without_victim, resident_below, swapped-placed, victim, victim_resident, without_victim-memory}
 use Rattle.vm_guest.proofs.PieceLemmas.{pieces-epoch}
 use Rattle.vm_guest.proofs.PlaceLemmas.{count-moved, one_if, place_of_other}
@@ -79,11 +79,11 @@ one_if_few true = omega arith
 one_if_few false = omega arith
 
 replaced-goes : (size : ℕ) (g : GuestRecord) (page : ℕ) → page < size → is_resident g.memory page ≡ false → has_spare g.memory ≡ false → IsMemory size g.memory
-    → Goes g (placed_in (lacking (evicted g)) page)
+    → Goes g (placed_in (with_demand (evicted g)) page)
 replaced-goes size g page below not_in none good =
     let m = g.memory in
-    let w = word g.words in
-    let few = word_below g.words in
+    let w = word g.generator in
+    let few = word_below g.generator in
     let places_size = good.places_size in
     let some_held = good.some_held in
     let full = all_resident size m none good in
@@ -107,7 +107,7 @@ framed-goes : (g : GuestRecord) (size page : ℕ) → page < size → IsMemory s
 framed-goes g size page below good = go (is_resident g.memory page) (has_spare g.memory) refl refl
   where
     go : (there spare : Bool) → is_resident g.memory page ≡ there → has_spare g.memory ≡ spare
-        → Goes g (if there then g else (if spare then placed_in g page else placed_in (lacking (evicted g)) page))
+        → Goes g (if there then g else (if spare then placed_in g page else placed_in (with_demand (evicted g)) page))
     go true spare is_in is_spare = goes-kept g
     go false true not_in is_spare = placed-goes size g page below not_in is_spare good
     go false false not_in none = replaced-goes size g page below not_in none good

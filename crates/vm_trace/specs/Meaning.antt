@@ -1,4 +1,4 @@
--- The step that a text is: what Spelling has as facts, as functions that compute it, and the first fault of a text that is none.
+-- The step that a text is, or the first fault of a text that is none, as a function; Spelling says as facts which step a text is.
 use Rattle.std.specs.Prelude.{ℕ, ◌+◌, ◌-◌, ◌==◌, Bool, nat_le, if◌then◌else◌, List, [], ◌∷◌, length, codes, bytes_eq, Result, Ok, Err}
 use Rattle.std.specs.List.{list_any}
 use Rattle.vm_trace.specs.declared.error.TraceError.{TraceError}

@@ -14,10 +14,10 @@ plan_boundary-requires c =
 pub returns-clause-kept : goal.returns-clause-kept
 returns-clause-kept c =
     let first = c.args.parts.now.pool in
-    let wait = c.blocks_in.result in
-    let moved = c.order_all.ensures ∙ ap (with_orders wait) (c.carry_out.ensures ∙ c.in_ok-plan.ensures.done) in
+    let blocks = c.blocks_in.result in
+    let moved = c.order_all.ensures ∙ ap (with_orders blocks) (c.carry_out.ensures ∙ c.in_ok-plan.ensures.done) in
     record {
       machine = refl;
       names = refl;
-      setup = subst (HasSameSetup first) (sym moved) (setup-settled (policy_in c.numbers_of-numbers.result) c.next_state-state.result wait first);
+      setup = subst (HasSameSetup first) (sym moved) (setup-settled (policy_in c.numbers_of-numbers.result) c.next_state-state.result blocks first);
     }

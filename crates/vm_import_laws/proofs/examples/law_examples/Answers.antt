@@ -8,7 +8,7 @@ use Rattle.json.specs.Lex.{lex, punctuate}
 use Rattle.json.specs.Text.{content, code_unit, short_escape}
 use Rattle.json.specs.Word.{after_number, word}
 use Rattle.serde_json.specs.Read.{number_of}
-use Rattle.vm_config.specs.Reading.{guest_in, keys_in, machine_in}
+use Rattle.vm_config.specs.Reading.{listed_in, keys_in, machine_in}
 use Rattle.vm_config.specs.Versions.{version_2}
 use Rattle.vm_import.specs.Guests.{guest_of}
 use Rattle.vm_import.specs.Limits.{passed_by}
@@ -25,7 +25,7 @@ use Rattle.vm_working_set.specs.WorkingSets.{working_set}
 use Rattle.vm_import_laws.proofs.examples.law_examples.Goals as goal
 
 pub returns-clause-with_code : goal.returns-clause-with_code
-unfolding is_utf8 chars encode_utf8 scan_numeral items members value lex punctuate content code_unit short_escape after_number word number_of guest_in keys_in machine_in version_2 read_step step_of_words step_within write_step bytes_in number_in number_of_word
+unfolding is_utf8 chars encode_utf8 scan_numeral items members value lex punctuate content code_unit short_escape after_number word number_of listed_in keys_in machine_in version_2 read_step step_of_words step_within write_step bytes_in number_in number_of_word
 returns-clause-with_code c = refl
 
 pub returns-clause-with_code_made : goal.returns-clause-with_code_made
@@ -33,7 +33,7 @@ unfolding digits access_of access_with address_of kind_of line_of process_of siz
 returns-clause-with_code_made c = record { accesses = _; written = record { limit = _; taken = refl; touched = omega arith }; config_is = refl }
 
 pub returns-clause-no_code : goal.returns-clause-no_code
-unfolding is_utf8 chars encode_utf8 scan_numeral items members value lex punctuate content code_unit short_escape after_number word number_of guest_in keys_in machine_in version_2 read_step step_of_words step_within write_step bytes_in number_in number_of_word
+unfolding is_utf8 chars encode_utf8 scan_numeral items members value lex punctuate content code_unit short_escape after_number word number_of listed_in keys_in machine_in version_2 read_step step_of_words step_within write_step bytes_in number_in number_of_word
 returns-clause-no_code c = refl
 
 pub returns-clause-no_code_made : goal.returns-clause-no_code_made

@@ -46,7 +46,7 @@ pub returns-clause-ordered : goal.returns-clause-ordered
 returns-clause-ordered c = λ blocked p i. conserves-changed (λ g. ordered g blocked) p i (λ g. refl)
 
 pub returns-clause-ordered_all : goal.returns-clause-ordered_all
-returns-clause-ordered_all c = λ wait p. conserves-all_changed (λ g. ordered g (blocked_above wait g)) p (λ g. refl)
+returns-clause-ordered_all c = λ blocks p. conserves-all_changed (λ g. ordered g (blocked_above blocks g)) p (λ g. refl)
 
 pub returns-clause-epoch : goal.returns-clause-epoch
 returns-clause-epoch c = λ p. conserves-all_changed epoch p epoch-held

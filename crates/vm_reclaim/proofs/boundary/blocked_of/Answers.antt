@@ -11,14 +11,14 @@ loop-position-preserved c =
     let i = c.loop-position.position in
     let rows = rows_of c.args.rows.now in
     let row = c.index-rows-position.result in
-    let wait = blocks_in c.args.state in
+    let blocks = blocks_in c.args.state in
     let ends = c.loop-position.invariant.ends in
     let before = c.loop-position-test.true in
     let wide = length-map c.args.rows.now row_of in
     record {
       ends = ends;
-      done = ap (λ (l : List ℕ). l ++ waiting_from (i + 1) wait (drop (i + 1) rows)) c.in_ok-push_blocked.ensures
-          ∙ step-waiting wait c.loop-position.blocked.items rows i c.waits.result (row_of row) (waiting_from 0 wait rows) (omega (arith, ends, before, wide))
+      done = ap (λ (l : List ℕ). l ++ waiting_from (i + 1) blocks (drop (i + 1) rows)) c.in_ok-push_blocked.ensures
+          ∙ step-waiting blocks c.loop-position.blocked.items rows i c.waits.result (row_of row) (waiting_from 0 blocks rows) (omega (arith, ends, before, wide))
           (here-read c.args.rows.now i row (omega (arith, ends, before)) c.index-rows-position.is) c.waits.ensures c.loop-position.invariant.done;
     }
 
@@ -26,4 +26,4 @@ pub returns-then-not-blocks_in-clause-list : goal.returns-then-not-blocks_in-cla
 returns-then-not-blocks_in-clause-list c =
     let rows = rows_of c.args.rows.now in
     let run : blocks_in c.args.state ≡ false = sym c.blocks_in.ensures ∙ c.if-not-blocks_in.true in
-    c.new.ensures ∙ (c.new-blocked.ensures.items ∙ sym (ap (λ wait. waiting_from 0 wait rows) run ∙ none-waits 0 rows))
+    c.new.ensures ∙ (c.new-blocked.ensures.items ∙ sym (ap (λ blocks. waiting_from 0 blocks rows) run ∙ none-waits 0 rows))

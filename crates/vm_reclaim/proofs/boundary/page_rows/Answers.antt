@@ -6,7 +6,7 @@ use Rattle.vm_plan.specs.Paging.{page_count_of}
 use Rattle.vm_plan.specs.PlanRow.{row_of, rows_of}
 use Rattle.vm_plan.specs.Row.{Row}
 use Rattle.vm_pool.proofs.FirstLemmas.{end-first_mapped, next-first_mapped, step-first_mapped}
-use Rattle.vm_reclaim.specs.declared.told.Paged.{Paged}
+use Rattle.vm_reclaim.specs.declared.lists.Paged.{Paged}
 use Rattle.vm_reclaim.specs.Planning.{paged_row, row_counts}
 use Rattle.vm_reclaim.specs.Reclaim.{paged_from}
 use Rattle.vm_reclaim.proofs.PlanningLemmas.{here-read, step-paged}

@@ -5,8 +5,8 @@ use Rattle.vm_plan.specs.Grants.{Pool, grant_list, IsGrantList}
 use Rattle.vm_plan.specs.PlanRow.{pool_of, rows_of as plan_rows}
 use Rattle.vm_plan.proofs.Places.{grants_apply}
 use Rattle.vm_pool.specs.CanMove.{CanGrant, CanRevoke}
-use Rattle.vm_reclaim.specs.declared.told.BoundaryPlan.{BoundaryPlan}
-use Rattle.vm_reclaim.specs.declared.told.Paged.{Paged}
+use Rattle.vm_reclaim.specs.declared.lists.BoundaryPlan.{BoundaryPlan}
+use Rattle.vm_reclaim.specs.declared.lists.Paged.{Paged}
 use Rattle.vm_reclaim.specs.Boundary.{carried_out, pool_reclaimed, CanCarryOut}
 use Rattle.vm_reclaim.specs.Numbers.{policy_in}
 use Rattle.vm_reclaim.specs.Planning.{frames_in, waiting_from}

@@ -1,7 +1,7 @@
 use Rattle.std.proofs.Common.{◌≡◌, ◌<◌, length, ap, ◌∙◌, arith}
 use Rattle.vm_pages.specs.Pages.{contains}
 use Rattle.vm_balloon.specs.Service.{numbers_in}
-use Rattle.vm_balloon.specs.Device.{names}
+use Rattle.vm_balloon.specs.Device.{is_named}
 use Rattle.vm_balloon.specs.Posted.{PostedPages}
 use Rattle.vm_balloon.proofs.MarkLemmas.{contains-marked, length-marked}
 use Rattle.vm_balloon.proofs.page_queue.PageQueue.names.Goals as goal
@@ -20,4 +20,4 @@ returns c =
     c.contains.ensures
     ∙ ap (λ pages. contains pages page) c.self.invariant.marked
     ∙ contains-marked c.self.inside.size (numbers_in c.self.inside.buffers.list) page within
-    ∙ ap (λ (q : PostedPages). names q.buffers page) c.self.view_is
+    ∙ ap (λ (q : PostedPages). is_named q.buffers page) c.self.view_is

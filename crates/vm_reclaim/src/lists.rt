@@ -1,4 +1,4 @@
-//! What a boundary takes from its guests and gives them, as it is told.
+//! What a boundary takes from its guests and gives them, in lists.
 ghost use Rattle.std.specs.Prelude.{◌≡◌};
 
 use std::marker::Model;
@@ -21,7 +21,7 @@ pub struct Paging {
 
 impl Model for Paging {
     ghost use Rattle.std.specs.Prelude.{List};
-    ghost use Rattle.vm_reclaim.specs.declared.told.Paged.{Paged};
+    ghost use Rattle.vm_reclaim.specs.declared.lists.Paged.{Paged};
 
     ghost Value = { List Paged };
 
@@ -43,7 +43,7 @@ impl Paging {
     }
 }
 
-/// The positions of guests that have to wait, in order. A clause reads them as a list.
+/// The positions of guests that are blocked, in order. A clause reads them as a list.
 #[derive(Debug, Drop)]
 pub struct Blocked {
     items: Vec<u32>,
@@ -81,6 +81,6 @@ pub struct BoundaryPlan {
     pub paged: Paging,
     /// The positions of the guests whose targets rise, one for each page, in order.
     pub granted: Plan,
-    /// The positions of the guests that have to wait then, in order.
+    /// The positions of the guests that are blocked then, in order.
     pub blocked: Blocked,
 }
