@@ -1,4 +1,5 @@
 mod admission;
+mod balloon;
 mod commands;
 mod frames;
 mod json;
@@ -6,6 +7,7 @@ mod lists;
 mod page_map;
 mod pages;
 mod patches;
+mod plan;
 mod sampling;
 mod swap;
 mod tax;

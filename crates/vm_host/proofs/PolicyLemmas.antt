@@ -12,7 +12,7 @@ use Rattle.vm_plan.specs.State.{next_state_of}
 use Rattle.vm_host.specs.declared.boundary.Refusal.{Refusal}
 use Rattle.vm_reclaim.specs.declared.room.Raise.{Raise}
 use Rattle.vm_host.specs.Answers.{AnswerValue}
-use Rattle.vm_host.specs.Boundary.{past_boundary_by, done_in, finished, grants, opened_boundary, page_counts, revocations, done_after_lines, with_grants, with_orders, with_paging, with_revocations, with_state_found}
+use Rattle.vm_host.specs.Boundary.{past_boundary_by, boundary_done, finished, grants, opened_boundary, page_counts, revocations, done_after_lines, with_grants, with_orders, with_paging, with_revocations, with_state_found}
 use Rattle.vm_reclaim.specs.Reclaim.{blocked_from, paged_from}
 use Rattle.vm_host.specs.Commands.{after_line, after_lines, answer_to, answers_to, decided, obeyed_by, outcome_of, revocations_by}
 use Rattle.vm_reclaim.specs.Room.{lacking_at, needed_to_start, raise_to}
@@ -142,7 +142,7 @@ module _ (p q : Policy) (alike : DecideAlike p q) where
   bounded-alike w lines =
       ap (finished p) (after_lines-alike (opened_boundary w) lines) ∙ finished-alike (after_lines q (opened_boundary w) lines)
 
-  pub boundary-alike : (w : World) (lines : List (List ℕ)) → done_in p w lines ≡ done_in q w lines
+  pub boundary-alike : (w : World) (lines : List (List ℕ)) → boundary_done p w lines ≡ boundary_done q w lines
   boundary-alike w lines =
       (λ i. done_after_lines p (after_lines-alike (opened_boundary w) lines i) (answers-alike (opened_boundary w) lines i))
       ∙ told-alike (after_lines q (opened_boundary w) lines) (answers_to q (opened_boundary w) lines)

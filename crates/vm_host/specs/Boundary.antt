@@ -97,8 +97,8 @@ done_after_lines policy w answers =
     }
 
 -- what the boundary did, for the report
-abbrev pub done_in : Policy → World → List (List ℕ) → Boundary
-done_in policy w lines = done_after_lines policy (after_lines policy (opened_boundary w) lines) (answers_to policy (opened_boundary w) lines)
+abbrev pub boundary_done : Policy → World → List (List ℕ) → Boundary
+boundary_done policy w lines = done_after_lines policy (after_lines policy (opened_boundary w) lines) (answers_to policy (opened_boundary w) lines)
 
 abbrev pub boundary_of : World → List (List ℕ) → Boundary
-boundary_of w lines = done_in (policy_of w.machine) w lines
+boundary_of w lines = boundary_done (policy_of w.machine) w lines

@@ -9,7 +9,7 @@ use Rattle.vm_config.specs.Migration.{in_hundredths, migrated}
 use Rattle.vm_host.specs.declared.boundary.Boundary.{Boundary}
 use Rattle.vm_host.specs.declared.boundary.Refusal.{Refusal}
 use Rattle.vm_host.specs.Answers.{AnswerValue}
-use Rattle.vm_host.specs.Boundary.{past_boundary_by, done_in, finished, opened_boundary, done_after_lines}
+use Rattle.vm_host.specs.Boundary.{past_boundary_by, boundary_done, finished, opened_boundary, done_after_lines}
 use Rattle.vm_host.specs.Commands.{after_line, after_lines, answer_to, answers_to, decided}
 use Rattle.vm_host.specs.Decisions.{◌>>=◌, Admitted, admission_of, decision_on, decision_on_line, readable}
 use Rattle.vm_host.specs.Epoch.{after_epoch}
@@ -74,7 +74,7 @@ module _ (policy : Policy) where
   bounded-converted w lines =
       ap (finished policy) (lines-converted lines (opened_boundary w)) ∙ finished-converted (after_lines policy (opened_boundary w) lines)
 
-  boundary-converted : (w : World) (lines : List (List ℕ)) → done_in policy (converted w) lines ≡ done_in policy w lines
+  boundary-converted : (w : World) (lines : List (List ℕ)) → boundary_done policy (converted w) lines ≡ boundary_done policy w lines
   boundary-converted w lines =
       (λ i. done_after_lines policy (lines-converted lines (opened_boundary w) i) (answers-converted lines (opened_boundary w) i))
       ∙ told-converted (after_lines policy (opened_boundary w) lines) (answers_to policy (opened_boundary w) lines)

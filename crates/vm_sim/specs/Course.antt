@@ -3,7 +3,7 @@ use Rattle.std.specs.Prelude.{ℕ, zero, suc, ◌==◌, Bool, true, false, List,
 use Rattle.vm_config.specs.declared.config.Config.{Config}
 use Rattle.vm_config.specs.Schedule.{ScheduledLine}
 use Rattle.vm_host.specs.declared.boundary.Boundary.{Boundary}
-use Rattle.vm_host.specs.Boundary.{past_boundary_by, done_in}
+use Rattle.vm_host.specs.Boundary.{past_boundary_by, boundary_done}
 use Rattle.vm_host.specs.Epoch.{after_epoch}
 use Rattle.vm_host.specs.World.{World, first_world}
 use Rattle.vm_reclaim.specs.Policy.{Policy, policy_of}
@@ -42,7 +42,7 @@ after_boundary policy lines w = past_boundary_by policy w lines
 
 -- what that boundary did
 unfoldable pub boundary_of_lines : Policy → List (List ℕ) → World → Boundary
-boundary_of_lines policy lines w = done_in policy w lines
+boundary_of_lines policy lines w = boundary_done policy w lines
 
 -- the host after an epoch, which begins with a boundary
 abbrev pub next_world : Policy → List (List ℕ) → World → World

@@ -161,6 +161,16 @@ pub(super) fn text(bytes: &[u8]) -> Given<'_> {
     }
 }
 
+// A reader that fails at once.
+pub(super) fn broken() -> Given<'static> {
+    Given {
+        bytes: b"",
+        spaces: 0,
+        ends: false,
+        has_failed: false,
+    }
+}
+
 // A writer that takes at most so many bytes at a time, and nothing more once it is full.
 #[derive(Drop)]
 pub(super) struct Narrow {
@@ -194,6 +204,9 @@ impl Sink for Narrow {
         self.has_failed
     }
 }
+
+// More than any of these programs writes here.
+pub(super) const AMPLE: usize = 1_000_000;
 
 // With room for so many bytes, three at a time.
 pub(super) fn with_room(alloc: Global, room: usize) -> Narrow {

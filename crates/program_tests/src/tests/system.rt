@@ -4,7 +4,7 @@ use std::cell::RefCell;
 use std::env::FillError;
 use std::fmt::Display;
 use std::io;
-use std::io::{Error, ErrorKind, Read, Write};
+use std::io::{Error, ErrorKind};
 use std::process::Abort;
 use std::rt::Env;
 
@@ -86,24 +86,4 @@ pub(super) fn assert_has_spoken(rt: &impl Abort, system: FakeSystem, wanted: boo
 // Asserts the status that a program ends with.
 pub(super) fn assert_status(rt: &impl Abort, status: u8, wanted: u8) {
     assert_eq!(rt; status, wanted);
-}
-
-// An end that fails at once.
-#[derive(Drop)]
-pub(super) struct Broken;
-
-impl Read for Broken {
-    fn read(&mut self, _buf: &mut [u8]) -> io::Result<usize> {
-        Err(Error::from(ErrorKind::BrokenPipe))
-    }
-}
-
-impl Write for Broken {
-    fn write(&mut self, _buf: &[u8]) -> io::Result<usize> {
-        Err(Error::from(ErrorKind::BrokenPipe))
-    }
-
-    fn flush(&mut self) -> io::Result<()> {
-        Ok(())
-    }
 }

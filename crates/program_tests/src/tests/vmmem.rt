@@ -1,14 +1,13 @@
 // `vmmem`: exit statuses, what is said on standard error, and what is written.
 use super::setup::{
-    FIRST_READ, FIRST_READ_REPORT, LONG_EPOCH_REPORT, STEP_THAT_CANNOT_BE_READ, assert_bytes,
-    assert_length, long_epoch,
+    AMPLE, FIRST_READ, FIRST_READ_REPORT, LONG_EPOCH_REPORT, STEP_THAT_CANNOT_BE_READ,
+    assert_bytes, assert_length, broken, long_epoch, text, with_room,
 };
-use super::system::{Broken, assert_has_spoken, assert_said, assert_status, with_words};
+use super::system::{assert_has_spoken, assert_said, assert_status, with_words};
 use std::process::Abort;
 use std::test::Fail;
 use std::thread::Threads;
 use vm_program::status;
-use vm_sim::Watched;
 
 // Asserts how the program ends for a configuration: its status, what it says, and what it writes.
 fn assert_end(
@@ -20,39 +19,29 @@ fn assert_end(
     written: &str,
 ) {
     let system = with_words(rt.alloc(), words);
-    let mut held = Vec::new(rt.alloc());
-    let ended = status(
-        rt,
-        &system,
-        &mut Watched::new(config.as_bytes()),
-        &mut Watched::new(&mut held),
-    );
+    let mut writer = with_room(rt.alloc(), AMPLE);
+    let ended = status(rt, &system, &mut text(config.as_bytes()), &mut writer);
     assert_status(rt, ended, wanted);
     assert_said(rt, system, said);
-    assert_bytes(rt, held.as_slice(), written.as_bytes());
+    assert_bytes(rt, writer.held.as_slice(), written.as_bytes());
 }
 
 #[test]
 fn a_failed_end_is_told(rt: HostRuntime) {
     let alloc = rt.alloc();
-    let mut held = Vec::new(alloc);
+    let mut writer = with_room(alloc, AMPLE);
     let reading = with_words(alloc, &["vmmem"]);
-    let failed_read = status(
-        &rt,
-        &reading,
-        &mut Watched::new(Broken),
-        &mut Watched::new(&mut held),
-    );
+    let failed_read = status(&rt, &reading, &mut broken(), &mut writer);
     assert_status(&rt, failed_read, 3);
     assert_said(&rt, reading, "vmmem: read failed\n");
-    assert_length(&rt, held.as_slice(), 0);
+    assert_length(&rt, writer.held.as_slice(), 0);
 
     let writing = with_words(alloc, &["vmmem"]);
     let failed_write = status(
         &rt,
         &writing,
-        &mut Watched::new(FIRST_READ.as_bytes()),
-        &mut Watched::new(Broken),
+        &mut text(FIRST_READ.as_bytes()),
+        &mut with_room(alloc, 0),
     );
     assert_status(&rt, failed_write, 3);
     assert_said(&rt, writing, "vmmem: write failed\n");
@@ -84,18 +73,13 @@ fn words_are_refused_before_the_input_is_read(rt: HostRuntime) {
     ];
     for words in refused {
         let system = with_words(rt.alloc(), words);
-        let mut input = FIRST_READ.as_bytes();
-        let mut held = Vec::new(rt.alloc());
-        let ended = status(
-            &rt,
-            &system,
-            &mut Watched::new(&mut input),
-            &mut Watched::new(&mut held),
-        );
+        let mut input = text(FIRST_READ.as_bytes());
+        let mut writer = with_room(rt.alloc(), AMPLE);
+        let ended = status(&rt, &system, &mut input, &mut writer);
         assert_status(&rt, ended, 2);
         assert_has_spoken(&rt, system, true);
-        assert_length(&rt, input, FIRST_READ.len());
-        assert_length(&rt, held.as_slice(), 0);
+        assert_length(&rt, input.bytes, FIRST_READ.len());
+        assert_length(&rt, writer.held.as_slice(), 0);
     }
 }
 

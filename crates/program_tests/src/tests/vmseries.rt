@@ -1,13 +1,15 @@
 // `vmseries`: exit statuses, what is said on standard error, and what is written.
-use super::setup::{STEP_THAT_CANNOT_BE_READ, assert_bytes, assert_length};
-use super::system::{Broken, assert_has_spoken, assert_said, assert_status, with_words};
+use super::setup::{
+    AMPLE, STEP_THAT_CANNOT_BE_READ, assert_bytes, assert_length, broken, text, with_room,
+};
+use super::system::{assert_has_spoken, assert_said, assert_status, with_words};
 use std::process::Abort;
 use std::test::Fail;
 use std::thread::Threads;
 use vm_charts::svg_text;
 use vm_series::{collect_series, csv_text};
 use vm_series_program::status;
-use vm_sim::{Open, Watched};
+use vm_sim::Open;
 
 // A machine without guests.
 const NO_GUESTS: &str = "{\"version\":1,\"frames\":10,\"epochs\":1,\"guests\":[]}";
@@ -26,39 +28,29 @@ fn assert_end(
     written: &[u8],
 ) {
     let system = with_words(rt.alloc(), words);
-    let mut held = Vec::new(rt.alloc());
-    let ended = status(
-        rt,
-        &system,
-        &mut Watched::new(config.as_bytes()),
-        &mut Watched::new(&mut held),
-    );
+    let mut writer = with_room(rt.alloc(), AMPLE);
+    let ended = status(rt, &system, &mut text(config.as_bytes()), &mut writer);
     assert_status(rt, ended, wanted);
     assert_said(rt, system, said);
-    assert_bytes(rt, held.as_slice(), written);
+    assert_bytes(rt, writer.held.as_slice(), written);
 }
 
 #[test]
 fn a_failed_end_is_told(rt: HostRuntime) {
     let alloc = rt.alloc();
-    let mut held = Vec::new(alloc);
+    let mut writer = with_room(alloc, AMPLE);
     let reading = with_words(alloc, &["vmseries"]);
-    let failed_read = status(
-        &rt,
-        &reading,
-        &mut Watched::new(Broken),
-        &mut Watched::new(&mut held),
-    );
+    let failed_read = status(&rt, &reading, &mut broken(), &mut writer);
     assert_status(&rt, failed_read, 3);
     assert_said(&rt, reading, "vmseries: read failed\n");
-    assert_length(&rt, held.as_slice(), 0);
+    assert_length(&rt, writer.held.as_slice(), 0);
 
     let writing = with_words(alloc, &["vmseries"]);
     let failed_write = status(
         &rt,
         &writing,
-        &mut Watched::new(NO_GUESTS.as_bytes()),
-        &mut Watched::new(Broken),
+        &mut text(NO_GUESTS.as_bytes()),
+        &mut with_room(alloc, 0),
     );
     assert_status(&rt, failed_write, 3);
     assert_said(&rt, writing, "vmseries: write failed\n");
@@ -109,18 +101,13 @@ fn words_are_refused_before_the_input_is_read(rt: HostRuntime) {
     ];
     for words in refused {
         let system = with_words(rt.alloc(), words);
-        let mut input = NO_GUESTS.as_bytes();
-        let mut held = Vec::new(rt.alloc());
-        let ended = status(
-            &rt,
-            &system,
-            &mut Watched::new(&mut input),
-            &mut Watched::new(&mut held),
-        );
+        let mut input = text(NO_GUESTS.as_bytes());
+        let mut writer = with_room(rt.alloc(), AMPLE);
+        let ended = status(&rt, &system, &mut input, &mut writer);
         assert_status(&rt, ended, 2);
         assert_has_spoken(&rt, system, true);
-        assert_length(&rt, input, NO_GUESTS.len());
-        assert_length(&rt, held.as_slice(), 0);
+        assert_length(&rt, input.bytes, NO_GUESTS.len());
+        assert_length(&rt, writer.held.as_slice(), 0);
     }
 }
 

@@ -1,12 +1,13 @@
 // `vmsweep`: exit statuses, what is said on standard error, and what is written. The tables are those of an independent program.
-use super::setup::{LOW_AND_BACK, Narrow, assert_bytes, assert_length, with_room};
+use super::setup::{
+    AMPLE, LOW_AND_BACK, Narrow, assert_bytes, assert_length, broken, text, with_room,
+};
 use super::sweeps::{ADMISSION, HEADER};
-use super::system::{Broken, assert_said, assert_status, with_words};
+use super::system::{assert_said, assert_status, with_words};
 use std::alloc::{AllocError, Global};
 use std::process::Abort;
 use std::test::Fail;
 use std::thread::Threads;
-use vm_sim::{Sink, Watched};
 use vm_sweep_program::status;
 
 const ADMISSION_RECORDS: &str = "400,50,75,16,0,0,1,0,5,2,1,0,0,0,0,0,0,0,0,0,0,0,no\r\n\
@@ -17,15 +18,15 @@ const ADMISSION_RECORDS: &str = "400,50,75,16,0,0,1,0,5,2,1,0,0,0,0,0,0,0,0,0,0,
 500,100,75,16,1,0,0,0,20,0,1,0,0,0,19,0,0,0,0,0,0,0,no\r\n";
 
 // Runs the program for a configuration, and gives its status; what is said has to be this.
-pub(super) fn ended<W: Sink>(
+pub(super) fn ended(
     rt: &(impl Abort + AllocGlobal + Threads + Sync),
     words: &[&str],
     config: &str,
     said: &str,
-    writer: &mut W,
+    writer: &mut Narrow,
 ) -> u8 {
     let system = with_words(rt.alloc(), words);
-    let ended = status(rt, &system, &mut Watched::new(config.as_bytes()), writer);
+    let ended = status(rt, &system, &mut text(config.as_bytes()), writer);
     assert_said(rt, system, said);
     ended
 }
@@ -39,10 +40,10 @@ pub(super) fn assert_end(
     said: &str,
     written: &[u8],
 ) {
-    let mut held = Vec::new(rt.alloc());
-    let status = ended(rt, words, config, said, &mut Watched::new(&mut held));
+    let mut writer = with_room(rt.alloc(), AMPLE);
+    let status = ended(rt, words, config, said, &mut writer);
     assert_status(rt, status, wanted);
-    assert_bytes(rt, held.as_slice(), written);
+    assert_bytes(rt, writer.held.as_slice(), written);
 }
 
 // The header, and these records.
@@ -159,16 +160,11 @@ fn a_refused_configuration_is_told_with_its_place(rt: HostRuntime) {
 #[test]
 fn a_failed_end_is_told(rt: HostRuntime) {
     let reading = with_words(rt.alloc(), &["vmsweep"]);
-    let mut held = Vec::new(rt.alloc());
-    let failed_read = status(
-        &rt,
-        &reading,
-        &mut Watched::new(Broken),
-        &mut Watched::new(&mut held),
-    );
+    let mut writer = with_room(rt.alloc(), AMPLE);
+    let failed_read = status(&rt, &reading, &mut broken(), &mut writer);
     assert_status(&rt, failed_read, 3);
     assert_said(&rt, reading, "vmsweep: read failed\n");
-    assert_length(&rt, held.as_slice(), 0);
+    assert_length(&rt, writer.held.as_slice(), 0);
 }
 
 // So many bytes from the first on, or all.

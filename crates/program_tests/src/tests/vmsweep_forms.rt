@@ -2,14 +2,13 @@
 // the places of the curves are worked out from them by hand.
 use super::charts::{assert_count, assert_shows};
 use super::plan::plan;
-use super::setup::{LOW_AND_BACK, Narrow, assert_bytes, assert_length, with_room};
+use super::setup::{AMPLE, LOW_AND_BACK, Narrow, assert_bytes, assert_length, text, with_room};
 use super::sweeps::{DRIVERS, GUESTS_HEADER, RESTART};
 use super::system::{assert_has_spoken, assert_said, assert_status, with_words};
 use super::vmsweep::{assert_end, ended, front};
 use std::alloc::{AllocError, Global};
 use std::process::Abort;
 use std::thread::Threads;
-use vm_sim::Watched;
 use vm_sweep_program::status;
 
 // ---- the table by guests
@@ -134,9 +133,10 @@ fn drawn(
     config: &str,
     said: &str,
 ) -> String {
-    let mut held = Vec::new(rt.alloc());
-    let status = ended(rt, words, config, said, &mut Watched::new(&mut held));
+    let mut writer = with_room(rt.alloc(), AMPLE);
+    let status = ended(rt, words, config, said, &mut writer);
     assert_status(rt, status, 0);
+    let Narrow { held, .. } = writer;
     String::from_utf8(held).expect(rt, "a text")
 }
 
@@ -357,17 +357,12 @@ fn guests_and_drawings_are_not_asked_for_together(rt: HostRuntime) {
     ];
     for words in refused {
         let system = with_words(rt.alloc(), words);
-        let mut input = DRIVERS.as_bytes();
-        let mut held = Vec::new(rt.alloc());
-        let ended = status(
-            &rt,
-            &system,
-            &mut Watched::new(&mut input),
-            &mut Watched::new(&mut held),
-        );
+        let mut input = text(DRIVERS.as_bytes());
+        let mut writer = with_room(rt.alloc(), AMPLE);
+        let ended = status(&rt, &system, &mut input, &mut writer);
         assert_status(&rt, ended, 2);
         assert_has_spoken(&rt, system, true);
-        assert_length(&rt, input, DRIVERS.len());
-        assert_length(&rt, held.as_slice(), 0);
+        assert_length(&rt, input.bytes, DRIVERS.len());
+        assert_length(&rt, writer.held.as_slice(), 0);
     }
 }

@@ -1,0 +1,125 @@
+// Machines and guests to test with.
+ghost use Rattle.std.specs.Prelude.{◌≤◌, All, IfOk, OnOk, length};
+ghost use Rattle.vm_trace.specs.Limits.{IsStep, IsWithin};
+
+use std::alloc::Global;
+use std::process::Abort;
+use std::test::Fail;
+use vm_host::{Domains, GuestSpec, MachineSpec, PageRead, Percents};
+use vm_trace::{Bytes, Trace, parse_step_within};
+
+// A machine of so many frames with the defaults of a configuration, but for its swap area.
+pub(super) fn machine(frames: u32, swap: u32) -> MachineSpec
+    requires some_frames { 1 ≤ frames }
+    requires few_frames { frames ≤ 1000 }
+    requires few_pages { swap ≤ 1000 }
+{
+    MachineSpec {
+        frames,
+        swap,
+        overhead: 0,
+        tax: 7500,
+        percent: Percents {
+            high: 600,
+            soft: 400,
+            hard: 200,
+            low: 100,
+        },
+        page_rate: 16,
+    }
+}
+
+// Adds a step of a guest of this size to a trace.
+fn add_step(trace: &mut Trace, size: u32, text: &str) -> Result<(), Fail>
+    requires some_pages { 1 ≤ size }
+    requires few_pages { size ≤ 262144 }
+    requires within { All (IsWithin size) trace.old }
+    requires bounded { All IsStep trace.old }
+    ensures within { OnOk result (All (IsWithin size) trace.new) }
+    ensures bounded { OnOk result (All IsStep trace.new) }
+{
+    let step = parse_step_within(text, size)?;
+    // To look at a step's action shows its limits.
+    let _ = step.action();
+    trace.push(step)?;
+    Ok(())
+}
+
+// A trace of a guest of this size.
+fn trace_of(alloc: Global, size: u32, steps: &[&str]) -> Result<Trace, Fail>
+    requires some_pages { 1 ≤ size }
+    requires few_pages { size ≤ 262144 }
+    ensures within { IfOk result (All (IsWithin size)) }
+    ensures bounded { IfOk result (All IsStep) }
+    ensures short { IfOk result (λ trace. length trace ≤ 1000) }
+{
+    let mut trace = Trace::new(alloc);
+    for step in steps {
+        add_step(&mut trace, size, step)?;
+    }
+    if trace.len() > 1000 {
+        return Err(Fail::from("a long trace"));
+    }
+    Ok(trace)
+}
+
+// What a test says of a guest. The rest are the defaults of a configuration.
+#[derive(Clone, Copy)]
+pub(super) struct Shape {
+    pub(super) size: u32,
+    pub(super) min: u32,
+    pub(super) shares: u32,
+    pub(super) quantum: u32,
+}
+
+// A guest of so many pages with this minimum.
+pub(super) fn guest(size: u32, min: u32) -> Shape {
+    Shape {
+        size,
+        min,
+        shares: 1000,
+        quantum: 100,
+    }
+}
+
+// Adds a guest with a trace, under a name that isn't there.
+pub(super) fn add_guest(
+    rt: &(impl AllocGlobal + Abort),
+    domains: &mut Domains,
+    name: &str,
+    shape: Shape,
+    steps: &[&str],
+) -> Result<(), Fail> {
+    assert!(rt; 1 <= shape.min && shape.min <= shape.size && shape.size <= 1000);
+    assert!(rt; 1 <= shape.shares && shape.shares <= 1000);
+    assert!(rt; 1 <= shape.quantum && shape.quantum <= 100);
+    assert!(rt; domains.len() < 256 && domains.position(name).is_none());
+    let spec = GuestSpec {
+        size: shape.size,
+        min: shape.min,
+        shares: shape.shares,
+        samples: 100,
+        period: 1000,
+        rate: 16,
+        quantum: shape.quantum,
+        seed: 0,
+        stream: 0,
+        tell: true,
+        trace: trace_of(rt.alloc(), shape.size, steps)?,
+    };
+    match domains.push(name, spec) {
+        Ok(()) => Ok(()),
+        Err(_spec) => Err(Fail::from("memory")),
+    }
+}
+
+// A read at the beginning of a page.
+pub(super) fn read(page: u32, bytes: &[u8]) -> PageRead
+    requires { length bytes.now ≤ 64 }
+{
+    PageRead {
+        page,
+        offset: 0,
+        bytes: Bytes::from_slice(bytes),
+    }
+}

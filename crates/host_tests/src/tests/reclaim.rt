@@ -1,0 +1,383 @@
+//! Worked examples of boundaries, over a pool without a host.
+ghost use Rattle.std.specs.Prelude.{◌≤◌};
+
+use crate::tests::check_eq;
+use std::alloc::Global;
+use std::process::Abort;
+use std::test::Fail;
+use std::thread::Threads;
+use vm_domains::{MachineSpec, Percents};
+use vm_guest::GuestSpec;
+use vm_plan::{Plan, State, next_state};
+use vm_pool::{Open, Pool};
+use vm_reclaim::{
+    Numbers, Paged, Raise, blocks_in, carry_out, make_room, numbers_of, plan_boundary,
+};
+use vm_trace::Trace;
+
+// How a machine of 100 frames decides.
+fn numbers(page_rate: u32) -> Numbers
+    requires some { 1 ≤ page_rate }
+    requires few { page_rate ≤ 256 }
+{
+    let machine = MachineSpec {
+        frames: 100,
+        swap: 98,
+        overhead: 0,
+        tax: 7500,
+        percent: Percents {
+            high: 600,
+            soft: 400,
+            hard: 200,
+            low: 100,
+        },
+        page_rate,
+    };
+    numbers_of(&machine)
+}
+
+// An idle guest of so many pages.
+fn guest_of(alloc: Global, size: u32, min: u32, shares: u32) -> GuestSpec
+    requires some_frames { 1 ≤ min }
+    requires min_within { min ≤ size }
+    requires few_pages { size ≤ 262144 }
+    requires some_shares { 1 ≤ shares }
+    requires few_shares { shares ≤ 1000000 }
+{
+    GuestSpec {
+        size,
+        min,
+        shares,
+        samples: 100,
+        period: 1000,
+        rate: 16,
+        quantum: 1,
+        seed: 0,
+        stream: 0,
+        tell: true,
+        trace: Trace::new(alloc),
+    }
+}
+
+// A pool of so many frames with two guests.
+fn pool_of(alloc: Global, frames: u32, guests: [GuestSpec; 2]) -> Result<Pool, Fail> {
+    let specs = Vec::from_array(alloc, guests)?;
+    match Pool::new(alloc, frames, 0, specs) {
+        Ok(pool) => Ok(pool),
+        Err(_specs) => Err(Fail::from("memory")),
+    }
+}
+
+// Starts a guest whose frames are free.
+fn start_within(rt: &(impl AllocGlobal + Abort), pool: &mut Pool, position: usize) {
+    assert!(rt; position < pool.len());
+    let min = pool.stopped(position).expect(rt, "it is stopped").min;
+    assert!(rt; u64::from(min) + u64::from(pool.overhead()) <= u64::from(pool.free()));
+    match pool.room_to_start(rt.alloc(), position) {
+        Ok(room) => pool.start(position, room),
+        Err(_) => panic!(rt; "memory"),
+    }
+}
+
+// Starts a guest, and tells how many pages of the first guest's target fell for it.
+fn start(
+    rt: &(impl AllocGlobal + Abort),
+    numbers: &Numbers,
+    pool: &mut Pool,
+    position: usize,
+) -> usize {
+    assert!(rt; pool.len() <= 256);
+    let needed = pool.stopped(position).expect(rt, "it is stopped").min;
+    let plan = make_room(rt.alloc(), numbers.tax, pool, None, needed).expect(rt, "memory");
+    start_within(rt, pool, position);
+    count_of(&plan, 0)
+}
+
+// Sets a minimum whose frames are free.
+fn set_min_within(rt: &impl Abort, pool: &mut Pool, position: usize, least: u32) {
+    assert!(rt; position < pool.len() && least >= 1);
+    let view = pool.view(position).expect(rt, "it runs");
+    assert!(rt; least <= view.cap && least.saturating_sub(view.held) <= pool.free());
+    pool.set_min(position, least).expect(rt, "memory");
+}
+
+// Raises a minimum, and tells how many pages of the first guest's target fell for it.
+fn raise_min(
+    rt: &(impl AllocGlobal + Abort),
+    numbers: &Numbers,
+    pool: &mut Pool,
+    position: usize,
+    least: u32,
+) -> usize {
+    assert!(rt; pool.len() <= 256 && position < pool.len() && least >= 1);
+    let view = pool.view(position).expect(rt, "it runs");
+    assert!(rt; least <= view.cap);
+    let needed = least.saturating_sub(view.held);
+    let raise = Raise { position, least };
+    let plan = make_room(rt.alloc(), numbers.tax, pool, Some(raise), needed).expect(rt, "memory");
+    set_min_within(rt, pool, position, least);
+    count_of(&plan, 0)
+}
+
+// How often a position is told.
+fn count_of(plan: &Plan, position: u32) -> usize {
+    let mut count = 0usize;
+    for stretch in plan.stretches() {
+        if stretch.position == position {
+            count = count.saturating_add(stretch.count as usize);
+        }
+    }
+    count
+}
+
+// How often each of the two is.
+fn counts_of(plan: &Plan) -> [usize; 2] {
+    [count_of(plan, 0), count_of(plan, 1)]
+}
+
+// How many frames the first guest gave up, if no other did.
+fn paged_by(paged: &[Paged]) -> u32 {
+    match paged.first() {
+        Some(first) if first.position == 0 && paged.len() == 1 => first.count,
+        _ => 0,
+    }
+}
+
+// What a boundary told of the first guest and of the second.
+#[derive(Clone, Copy, Debug, PartialEq, Eq)]
+struct Told {
+    state: State,
+    free: u32,
+    revoked: [usize; 2],
+    granted: [usize; 2],
+    // How many frames the first guest gave up by paging.
+    paged: u32,
+    // Whether the first guest is blocked.
+    blocked: bool,
+}
+
+// Guests run an epoch; then devices are served, and spares come back.
+fn next_epoch(rt: &(impl AllocGlobal + Abort + Threads + Sync), pool: &mut Pool) {
+    pool.serve_all();
+    pool.epoch(rt, rt.alloc(), &Open, 1).expect(rt, "memory");
+    pool.serve_all();
+    pool.spares_back_all();
+}
+
+// The rest of a boundary, once its lines are obeyed.
+fn settle(
+    rt: &(impl AllocGlobal + Abort),
+    numbers: &Numbers,
+    pool: &mut Pool,
+    state: State,
+) -> Told {
+    let alloc = rt.alloc();
+    let free = pool.free();
+    let state = next_state(state, free, &numbers.thresholds);
+    assert!(rt; pool.len() <= 256);
+    let plan = plan_boundary(alloc, numbers, pool, state).expect(rt, "memory");
+    carry_out(pool, &plan);
+    pool.order_all(blocks_in(state));
+    Told {
+        state,
+        free,
+        revoked: counts_of(&plan.revoked),
+        granted: counts_of(&plan.granted),
+        paged: paged_by(plan.paged.as_slice()),
+        blocked: plan.blocked.as_slice() == [0].as_slice(),
+    }
+}
+
+// A boundary that changes nothing.
+fn quiet(state: State, free: u32) -> Told {
+    Told {
+        state,
+        free,
+        revoked: [0, 0],
+        granted: [0, 0],
+        paged: 0,
+        blocked: false,
+    }
+}
+
+// How many frames a guest is to have, and how many it has.
+fn frames_of(pool: &Pool, position: usize) -> Option<(u32, u32)> {
+    let view = pool.view(position)?;
+    Some((view.target, view.held))
+}
+
+// Starts a guest, and asserts how many pages of the first guest's target fell for it.
+fn check_start(
+    rt: &(impl AllocGlobal + Abort),
+    numbers: &Numbers,
+    pool: &mut Pool,
+    position: usize,
+    taken: usize,
+) {
+    check_eq(rt, start(rt, numbers, pool, position), taken);
+}
+
+// Asserts what a boundary told.
+fn check_told(rt: &impl Abort, told: Told, wanted: Told) {
+    check_eq(rt, told, wanted);
+}
+
+// Asserts the target of a guest, and the frames that it holds.
+fn check_frames(rt: &impl Abort, pool: &Pool, position: usize, frames: (u32, u32)) {
+    check_eq(rt, frames_of(pool, position), Some(frames));
+}
+
+#[test]
+fn a_second_guest_takes_its_frames_from_the_first(rt: HostRuntime) -> Result<(), Fail> {
+    let alloc = rt.alloc();
+    let numbers = numbers(16);
+    let mut pool = pool_of(
+        alloc,
+        100,
+        [guest_of(alloc, 100, 10, 1000), guest_of(alloc, 2, 2, 1000)],
+    )?;
+    check_start(&rt, &numbers, &mut pool, 0, 0);
+    let first = settle(&rt, &numbers, &mut pool, State::High);
+    let wanted = Told {
+        granted: [86, 0],
+        ..quiet(State::High, 90)
+    };
+    check_told(&rt, first, wanted);
+
+    next_epoch(&rt, &mut pool);
+    check_start(&rt, &numbers, &mut pool, 1, 0);
+    let second = settle(&rt, &numbers, &mut pool, first.state);
+    let wanted = Told {
+        revoked: [5, 0],
+        ..quiet(State::Soft, 2)
+    };
+    check_told(&rt, second, wanted);
+
+    next_epoch(&rt, &mut pool);
+    let third = settle(&rt, &numbers, &mut pool, second.state);
+    check_told(&rt, third, quiet(State::High, 7));
+    check_frames(&rt, &pool, 0, (91, 91));
+    check_frames(&rt, &pool, 1, (2, 2));
+    pool.close();
+    Ok(())
+}
+
+#[test]
+fn in_low_a_guest_is_paged_and_waits(rt: HostRuntime) -> Result<(), Fail> {
+    let alloc = rt.alloc();
+    let numbers = numbers(1);
+    let mut pool = pool_of(
+        alloc,
+        100,
+        [guest_of(alloc, 100, 10, 1000), guest_of(alloc, 5, 5, 1000)],
+    )?;
+    check_start(&rt, &numbers, &mut pool, 0, 0);
+    let first = settle(&rt, &numbers, &mut pool, State::High);
+    check_eq(&rt, first.granted, [86, 0]);
+
+    // The second guest lacks a frame.
+    next_epoch(&rt, &mut pool);
+    check_start(&rt, &numbers, &mut pool, 1, 1);
+    let second = settle(&rt, &numbers, &mut pool, first.state);
+    let wanted = Told {
+        revoked: [7, 0],
+        paged: 1,
+        blocked: true,
+        ..quiet(State::Low, 0)
+    };
+    check_told(&rt, second, wanted);
+
+    next_epoch(&rt, &mut pool);
+    let third = settle(&rt, &numbers, &mut pool, second.state);
+    check_told(&rt, third, quiet(State::Hard, 7));
+    next_epoch(&rt, &mut pool);
+    let fourth = settle(&rt, &numbers, &mut pool, third.state);
+    check_told(&rt, fourth, quiet(State::Soft, 7));
+    check_frames(&rt, &pool, 0, (88, 88));
+    pool.close();
+    Ok(())
+}
+
+#[test]
+fn a_raised_minimum_takes_from_the_other_guest(rt: HostRuntime) -> Result<(), Fail> {
+    let alloc = rt.alloc();
+    let numbers = numbers(16);
+    let mut pool = pool_of(
+        alloc,
+        100,
+        [guest_of(alloc, 90, 10, 1000), guest_of(alloc, 20, 2, 1)],
+    )?;
+    check_start(&rt, &numbers, &mut pool, 0, 0);
+    check_start(&rt, &numbers, &mut pool, 1, 0);
+    let first = settle(&rt, &numbers, &mut pool, State::High);
+    let wanted = Told {
+        granted: [80, 4],
+        ..quiet(State::High, 88)
+    };
+    check_told(&rt, first, wanted);
+
+    next_epoch(&rt, &mut pool);
+    check_eq(&rt, raise_min(&rt, &numbers, &mut pool, 1, 16), 6);
+    let second = settle(&rt, &numbers, &mut pool, first.state);
+    let wanted = Told {
+        revoked: [7, 0],
+        paged: 7,
+        ..quiet(State::Low, 0)
+    };
+    check_told(&rt, second, wanted);
+    check_frames(&rt, &pool, 0, (77, 77));
+    check_frames(&rt, &pool, 1, (16, 16));
+    pool.close();
+    Ok(())
+}
+
+// What the first guest gives up is granted to the second in the same boundary.
+#[test]
+fn frames_given_up_are_granted(rt: HostRuntime) -> Result<(), Fail> {
+    let alloc = rt.alloc();
+    let numbers = numbers(16);
+    let mut pool = pool_of(
+        alloc,
+        100,
+        [guest_of(alloc, 100, 10, 1000), guest_of(alloc, 10, 3, 1000)],
+    )?;
+    check_start(&rt, &numbers, &mut pool, 0, 0);
+    let first = settle(&rt, &numbers, &mut pool, State::High);
+    check_eq(&rt, first.granted, [86, 0]);
+
+    // A frame is free, so that none could be granted before six are given up.
+    check_start(&rt, &numbers, &mut pool, 1, 0);
+    let second = settle(&rt, &numbers, &mut pool, first.state);
+    let wanted = Told {
+        revoked: [6, 0],
+        paged: 6,
+        granted: [0, 6],
+        ..quiet(State::Hard, 1)
+    };
+    check_told(&rt, second, wanted);
+    check_frames(&rt, &pool, 0, (90, 90));
+    check_frames(&rt, &pool, 1, (9, 9));
+    pool.close();
+    Ok(())
+}
+
+// Of equal prices the lower position comes first.
+#[test]
+fn equal_guests_give_in_turn(rt: HostRuntime) -> Result<(), Fail> {
+    let alloc = rt.alloc();
+    let mut pool = pool_of(
+        alloc,
+        15,
+        [guest_of(alloc, 5, 5, 100), guest_of(alloc, 5, 5, 100)],
+    )?;
+    start_within(&rt, &mut pool, 0);
+    start_within(&rt, &mut pool, 1);
+    set_min_within(&rt, &mut pool, 0, 1);
+    set_min_within(&rt, &mut pool, 1, 1);
+    assert!(rt; pool.len() <= 256);
+    let plan = plan_boundary(alloc, &numbers(16), &pool, State::Soft).expect(&rt, "memory");
+    let revoked: Vec<u32> = plan.revoked.moves().collect(alloc).expect(&rt, "memory");
+    check_eq(&rt, revoked.as_slice(), [0, 1].as_slice());
+    pool.close();
+    Ok(())
+}

@@ -1,0 +1,387 @@
+ghost use Rattle.std.specs.Prelude.{◌≡◌, ◌<◌, ◌≤◌, vec_capacity};
+
+use super::check_eq;
+use std::alloc::Global;
+use std::process::Abort;
+use std::test::Fail;
+use vm_balloon::{Device, PostError, Queue, Stats, encode_page, encode_stat, page_at, stat_at};
+
+// Serves the device, and asserts what that did.
+fn check_service(rt: &impl Abort, device: &mut Device, inflated: &[u32], deflated: &[u32], bad: u32)
+    ensures { device.new.size ≡ device.old.size }
+{
+    let served = device.serve();
+    check_eq(rt, served.inflated.as_slice(), inflated);
+    check_eq(rt, served.deflated.as_slice(), deflated);
+    check_eq(rt, served.bad, bad);
+}
+
+// Posts a buffer, and asserts that the device takes it.
+fn check_post(rt: &impl Abort, device: &mut Device, queue: Queue, bytes: &[u8])
+    ensures { device.new.size ≡ device.old.size }
+{
+    check_eq(rt, device.post(queue, bytes), Ok(()));
+}
+
+// Posts buffers, and asserts that the device takes each.
+fn check_posts(rt: &impl Abort, device: &mut Device, posts: &[(Queue, &[u8])]) {
+    for &(queue, bytes) in posts {
+        check_post(rt, device, queue, bytes);
+    }
+}
+
+// Asserts which the least pages in the balloon are.
+fn check_listed(
+    rt: &impl Abort,
+    alloc: Global,
+    device: &Device,
+    most: u32,
+    want: &[u32],
+) -> Result<(), Fail> {
+    let mut pages = Vec::with_capacity(alloc, most as usize)?;
+    // Twice, since what was listed before has to go.
+    device.list_ballooned(most, &mut pages);
+    device.list_ballooned(most, &mut pages);
+    check_eq(rt, pages.as_slice(), want);
+    Ok(())
+}
+
+// Asserts how many pages are in the balloon.
+fn check_len(rt: &impl Abort, device: &Device, pages: u32) {
+    check_eq(rt, device.balloon_len(), pages);
+}
+
+// Asserts whether a page is named by an inflate buffer, and by a deflate buffer.
+fn check_posted(rt: &impl Abort, device: &Device, page: u32, inflate: bool, deflate: bool)
+    requires { page < device.now.size }
+{
+    let posted = (device.posted_inflate(page), device.posted_deflate(page));
+    check_eq(rt, posted, (inflate, deflate));
+}
+
+// Asserts whether a page is in the balloon, and whether it was used early.
+fn check_place(rt: &impl Abort, device: &Device, page: u32, ballooned: bool, early: bool)
+    requires { page < device.now.size }
+{
+    let place = (device.is_ballooned(page), device.is_early(page));
+    check_eq(rt, place, (ballooned, early));
+}
+
+// Asserts how many bytes the driver said last that its guest has.
+fn check_total(rt: &impl Abort, device: &Device, total: Option<u64>) {
+    check_eq(rt, device.stats().total, total);
+}
+
+// Asserts what the driver said last.
+fn check_stats(rt: &impl Abort, device: &Device, want: Stats) {
+    check_eq(rt, device.stats(), want);
+}
+
+// Asserts a refused post.
+fn check_refusal(rt: &impl Abort, device: &mut Device, queue: Queue, bytes: &[u8], why: PostError) {
+    check_eq(rt, device.post(queue, bytes), Err(why));
+}
+
+// Asserts the bytes of the configuration space.
+fn check_config(rt: &impl Abort, device: &Device, bytes: [u8; 8]) {
+    check_eq(rt, device.config(), bytes);
+}
+
+// Runs the steps of a test on a device that only this function owns, since a function that owns one is proved to free all parts
+// of it wherever it may end.
+fn on_device<F: FnOnce(&mut Device) -> Result<(), Fail>>(
+    alloc: Global,
+    size: u32,
+    buffers: u32,
+    steps: F,
+) -> Result<(), Fail>
+    requires size_in_range { size ≤ 262144 }
+    requires buffers_in_range { buffers ≤ 256 }
+    requires callable { (device : _) → device.now.size ≡ size → F.pre steps device }
+{
+    let mut device = Device::new(alloc, size, buffers)?;
+    steps(&mut device)
+}
+
+// Puts the last of four pages into the balloon, and uses it early.
+fn use_early(rt: &impl Abort, device: &mut Device)
+    requires { device.old.size ≡ 4 }
+    ensures { device.new.size ≡ 4 }
+{
+    check_post(rt, device, Queue::Inflate, &encode_page(3));
+    check_service(rt, device, &[3], &[], 0);
+    assert!(rt; device.is_ballooned(3));
+    assert!(rt; !device.posted_inflate(3));
+    device.use_early(3);
+    check_place(rt, device, 3, false, true);
+}
+
+// Posts a statistics buffer, and asserts what it says once it is served.
+fn check_report(rt: &impl Abort, device: &mut Device, report: &[u8], want: Stats) {
+    check_post(rt, device, Queue::Statistics, report);
+    check_service(rt, device, &[], &[], 0);
+    check_stats(rt, device, want);
+}
+
+#[test]
+fn service(rt: HostRuntime) -> Result<(), Fail> {
+    on_device(rt.alloc(), 4, 2, |device| {
+        let three_two_and_a_rest = [3, 0, 0, 0, 2, 0, 0, 0, 3];
+        check_post(&rt, device, Queue::Inflate, &three_two_and_a_rest);
+        check_service(&rt, device, &[3, 2], &[], 1);
+        check_len(&rt, device, 2);
+
+        let past_the_end_and_again = [255, 255, 255, 255, 3, 0, 0, 0];
+        check_post(&rt, device, Queue::Inflate, &past_the_end_and_again);
+        check_service(&rt, device, &[], &[], 2);
+
+        check_post(&rt, device, Queue::Deflate, &encode_page(2));
+        check_service(&rt, device, &[], &[2], 0);
+        check_post(&rt, device, Queue::Deflate, &encode_page(2));
+        check_service(&rt, device, &[], &[], 1);
+        Ok(())
+    })
+}
+
+#[test]
+fn ballooned_pages_are_listed(rt: HostRuntime) -> Result<(), Fail> {
+    on_device(rt.alloc(), 8, 2, |device| {
+        let six_one_and_four = [6, 0, 0, 0, 1, 0, 0, 0, 4, 0, 0, 0];
+        check_post(&rt, device, Queue::Inflate, &six_one_and_four);
+        check_service(&rt, device, &[6, 1, 4], &[], 0);
+        check_listed(&rt, rt.alloc(), device, 2, &[1, 4])?;
+        check_listed(&rt, rt.alloc(), device, 4, &[1, 4, 6])?;
+        Ok(())
+    })
+}
+
+// What is posted after a service takes the places of what was posted before it, also where it is shorter.
+#[test]
+fn places_are_used_again(rt: HostRuntime) -> Result<(), Fail> {
+    on_device(rt.alloc(), 8, 4, |device| {
+        let six_one_and_four = [6, 0, 0, 0, 1, 0, 0, 0, 4, 0, 0, 0];
+        let nine_in_all = [5, 0, 9, 0, 0, 0, 0, 0, 0, 0];
+        check_posts(
+            &rt,
+            device,
+            &[
+                (Queue::Inflate, &six_one_and_four),
+                (Queue::Inflate, &encode_page(3)),
+                (Queue::Statistics, &nine_in_all),
+            ],
+        );
+        check_service(&rt, device, &[6, 1, 4, 3], &[], 0);
+        check_total(&rt, device, Some(9));
+
+        check_post(&rt, device, Queue::Inflate, &encode_page(5));
+        check_post(&rt, device, Queue::Statistics, &[5, 0]);
+        check_service(&rt, device, &[5], &[], 0);
+        check_stats(&rt, device, Stats::default());
+
+        let two_and_seven = [2, 0, 0, 0, 7, 0, 0, 0];
+        check_posts(
+            &rt,
+            device,
+            &[
+                (Queue::Inflate, &[]),
+                (Queue::Inflate, &two_and_seven),
+                (Queue::Inflate, &encode_page(0)),
+            ],
+        );
+        check_service(&rt, device, &[2, 7, 0], &[], 0);
+        check_len(&rt, device, 8);
+        Ok(())
+    })
+}
+
+#[test]
+fn refused_posts(rt: HostRuntime) -> Result<(), Fail> {
+    on_device(rt.alloc(), 4, 2, |device| {
+        check_post(&rt, device, Queue::Inflate, &[]);
+        check_refusal(&rt, device, Queue::Inflate, &[0; 1025], PostError::TooLong);
+        check_post(&rt, device, Queue::Statistics, &[0; 1024]);
+        check_refusal(&rt, device, Queue::Deflate, &[], PostError::Full);
+        check_refusal(&rt, device, Queue::Deflate, &[0; 1025], PostError::TooLong);
+        Ok(())
+    })
+}
+
+// Posts an inflate of page 2 and then its deflate, and asserts how both are posted until they are served.
+fn check_posted_until_served(rt: &impl Abort, device: &mut Device)
+    requires { device.old.size ≡ 4 }
+{
+    check_post(rt, device, Queue::Inflate, &encode_page(2));
+    check_post(rt, device, Queue::Deflate, &encode_page(2));
+    check_posted(rt, device, 2, true, true);
+    check_posted(rt, device, 3, false, false);
+    check_service(rt, device, &[2], &[2], 0);
+    check_posted(rt, device, 2, false, false);
+}
+
+// Inflates are served before deflates, whichever was posted first.
+#[test]
+fn inflates_first(rt: HostRuntime) -> Result<(), Fail> {
+    on_device(rt.alloc(), 4, 2, |device| {
+        check_posted_until_served(&rt, device);
+        check_post(&rt, device, Queue::Deflate, &encode_page(2));
+        check_post(&rt, device, Queue::Inflate, &encode_page(2));
+        check_service(&rt, device, &[2], &[2], 0);
+        check_len(&rt, device, 0);
+        Ok(())
+    })
+}
+
+#[test]
+fn no_page_in_it(rt: HostRuntime) -> Result<(), Fail> {
+    on_device(rt.alloc(), 4, 20, |device| {
+        check_post(&rt, device, Queue::Inflate, &[255; 1024]);
+        check_service(&rt, device, &[], &[], 256);
+        for queue in [Queue::Inflate, Queue::Deflate, Queue::Statistics] {
+            check_post(&rt, device, queue, &[]);
+        }
+        check_service(&rt, device, &[], &[], 0);
+        check_stats(&rt, device, Stats::default());
+        Ok(())
+    })
+}
+
+#[test]
+fn early_use(rt: HostRuntime) -> Result<(), Fail> {
+    on_device(rt.alloc(), 4, 2, |device| {
+        use_early(&rt, device);
+        check_len(&rt, device, 0);
+        check_post(&rt, device, Queue::Deflate, &encode_page(3));
+        check_service(&rt, device, &[], &[3], 0);
+        check_place(&rt, device, 3, false, false);
+        check_post(&rt, device, Queue::Deflate, &encode_page(3));
+        check_service(&rt, device, &[], &[], 1);
+        Ok(())
+    })
+}
+
+// A page used early is outside the balloon, so an inflate of it is accepted, and its deflate then too.
+#[test]
+fn early_page_inflated(rt: HostRuntime) -> Result<(), Fail> {
+    on_device(rt.alloc(), 4, 2, |device| {
+        use_early(&rt, device);
+        check_post(&rt, device, Queue::Inflate, &encode_page(3));
+        check_posted(&rt, device, 3, true, false);
+        check_post(&rt, device, Queue::Deflate, &encode_page(3));
+        check_service(&rt, device, &[3], &[3], 0);
+        check_len(&rt, device, 0);
+
+        // Early is empty after a service, so this deflate is none of a page used early.
+        check_post(&rt, device, Queue::Deflate, &encode_page(3));
+        check_service(&rt, device, &[], &[], 1);
+        Ok(())
+    })
+}
+
+// Asserts how a refusal reads.
+fn check_words(rt: &impl Abort, alloc: Global, refusal: PostError, want: &str) -> Result<(), Fail> {
+    let words = refusal.to_string(alloc)?;
+    check_eq(rt, words.as_str(), want);
+    Ok(())
+}
+
+#[test]
+fn refusals_read(rt: HostRuntime) -> Result<(), Fail> {
+    check_words(&rt, rt.alloc(), PostError::Full, "all buffers are posted")?;
+    check_words(
+        &rt,
+        rt.alloc(),
+        PostError::TooLong,
+        "the buffer is too long",
+    )?;
+    check_eq(&rt, PostError::Full as u8, 1);
+    check_eq(&rt, PostError::TooLong as u8, 2);
+    Ok(())
+}
+
+// The tag 99 is none of the seven. What a buffer leaves out is forgotten, and where several came, the last counts.
+#[test]
+fn statistics(rt: HostRuntime) -> Result<(), Fail> {
+    on_device(rt.alloc(), 4, 2, |device| {
+        let total = [5, 0, 0, 0, 1, 0, 0, 0, 0, 0];
+        let free_unknown_total = [
+            4, 0, 0, 16, 0, 0, 0, 0, 0, 0, 99, 0, 1, 0, 0, 0, 0, 0, 0, 0, 5, 0, 0, 32, 0, 0, 0, 0,
+            0, 0,
+        ];
+        let mut want = Stats::default();
+        want.total = Some(65536);
+        check_report(&rt, device, &total, want);
+
+        want.free = Some(4096);
+        want.total = Some(8192);
+        check_post(&rt, device, Queue::Statistics, &total);
+        check_report(&rt, device, &free_unknown_total, want);
+        Ok(())
+    })
+}
+
+// A tag that comes twice takes the last value, and nine bytes are no entry.
+#[test]
+fn repeated_tags(rt: HostRuntime) -> Result<(), Fail> {
+    on_device(rt.alloc(), 4, 2, |device| {
+        let twice_and_a_rest = [
+            3, 0, 1, 0, 0, 0, 0, 0, 0, 0, 3, 0, 2, 0, 0, 0, 0, 0, 0, 0, 3, 0, 3, 0, 0, 0, 0, 0, 0,
+        ];
+        let mut faults = Stats::default();
+        faults.minor_faults = Some(2);
+        check_report(&rt, device, &twice_and_a_rest, faults);
+        Ok(())
+    })
+}
+
+// What was said last stands until more is said, also over services that find no statistics.
+#[test]
+fn statistics_stay(rt: HostRuntime) -> Result<(), Fail> {
+    on_device(rt.alloc(), 4, 2, |device| {
+        let mut want = Stats::default();
+        want.total = Some(9);
+        check_report(&rt, device, &[5, 0, 9, 0, 0, 0, 0, 0, 0, 0], want);
+        check_service(&rt, device, &[], &[], 0);
+        check_stats(&rt, device, want);
+        want.total = Some(7);
+        check_report(&rt, device, &[5, 0, 7, 0, 0, 0, 0, 0, 0, 0], want);
+        check_service(&rt, device, &[], &[], 0);
+        check_stats(&rt, device, want);
+        Ok(())
+    })
+}
+
+#[test]
+fn bytes(rt: HostRuntime) {
+    check_eq(&rt, encode_page(3), [3, 0, 0, 0]);
+    let entries = [
+        ((5, 65536), [5, 0, 0, 0, 1, 0, 0, 0, 0, 0]),
+        ((4, 4096), [4, 0, 0, 16, 0, 0, 0, 0, 0, 0]),
+        ((99, 1), [99, 0, 1, 0, 0, 0, 0, 0, 0, 0]),
+        ((5, 8192), [5, 0, 0, 32, 0, 0, 0, 0, 0, 0]),
+    ];
+    for ((tag, value), bytes) in entries {
+        check_eq(&rt, encode_stat(tag, value), bytes);
+    }
+    let places = [(0, Some(3)), (1, Some(258)), (2, None)];
+    for (place, page) in places {
+        check_eq(&rt, page_at(&[3, 0, 0, 0, 2, 1, 0, 0, 7], place), page);
+    }
+    check_eq(
+        &rt,
+        stat_at(&encode_stat(6, 1 << 40), 0),
+        Some((6, 1 << 40)),
+    );
+    check_eq(&rt, stat_at(&encode_stat(6, 1), 1), None);
+}
+
+#[test]
+fn configuration(rt: HostRuntime) -> Result<(), Fail> {
+    on_device(rt.alloc(), 4, 2, |device| {
+        check_config(&rt, device, [0; 8]);
+        device.set_num_pages(258);
+        device.set_actual(3);
+        check_config(&rt, device, [2, 1, 0, 0, 3, 0, 0, 0]);
+        check_eq(&rt, (device.num_pages(), device.actual()), (258, 3));
+        Ok(())
+    })
+}

@@ -1,7 +1,0 @@
-//! The tests of `vm_pool`, by its public calls.
-//!
-//! They are a crate of their own, so that `vm_pool` is not proved once more with them.
-#![tactic(auto)]
-
-#[cfg(test)]
-mod tests;
