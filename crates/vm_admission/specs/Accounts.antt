@@ -42,7 +42,7 @@ abbrev pub without_guest : Accounts → ℕ → ℕ → Accounts
 without_guest a min reserve =
     record a { guests = a.guests - 1; memory = a.memory - (min + a.overhead); reserved = a.reserved - reserve }
 
--- a guest's minimum goes from old to new, and its reserve rises
+-- a guest's minimum goes from old to new, and so much more swap is reserved
 abbrev pub with_minimum : Accounts → ℕ → ℕ → ℕ → Accounts
 with_minimum a old new more_reserve =
     record a { memory = a.memory - old + new; reserved = a.reserved + more_reserve }

@@ -85,6 +85,7 @@ command_of_words (kind ∷ a ∷ b ∷ []) = sized_command kind a b
 command_of_words (kind ∷ a ∷ b ∷ c ∷ []) = tune_command kind a b c
 command_of_words _ = Err Bad
 
+-- Ok of the command where IsLine, Err Size where IsUnreadable, Err Bad where HasNoForm
 -- the one command or fault that is such: IsLine, IsUnreadable, HasNoForm, by vm_commands::law_lines
 unfoldable pub command_of : List ℕ → Result Command LineFault
 command_of line = command_of_words (words_of line)

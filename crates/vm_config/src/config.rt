@@ -4,7 +4,8 @@ use std::alloc::AllocError;
 use std::marker::Model;
 use vm_domains::{Domains, MachineSpec};
 
-/// A whole configuration, with tax and percents in hundredths of a percent.
+/// A whole configuration, with tax and percents in hundredths of a percent; before it is migrated, one of version 1 has whole
+/// percents.
 #[derive(Drop)]
 pub struct Config {
     /// How the machine is set up.

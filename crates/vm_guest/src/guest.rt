@@ -153,7 +153,7 @@ impl Guest {
     }
 
     /// Gives back so many frames above the target, one by one: a spare, or else the frame of a victim, which goes to the swap area
-    /// (Waldspurger, OSDI 2002, section 3.1).
+    /// (Waldspurger, OSDI 2002, section 3.3).
     pub fn release(&mut self, count: u32, machine: &mut Machine)
         requires few { count ≤ self.old.guest.memory.held - self.old.guest.allotment.target }
         requires out { IsTrue (set.is_subset self.old.frames machine.old.out) }

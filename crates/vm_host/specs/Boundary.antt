@@ -16,7 +16,7 @@ use Rattle.vm_host.specs.World.{World, with_phase, with_pool}
 
 -- ---- before the lines
 
--- the host as the lines of a boundary find it: each device is served, and the spares above the targets are back
+-- the host as the lines of a boundary find it: each device is served, the spares above the targets are back, and it counts as ready
 abbrev pub opened_boundary : World → World
 opened_boundary w = record w { pool = with_spares_back (all_changed serviced w.pool); phase = Ready }
 

@@ -44,7 +44,7 @@ obeyed_by tax pool position (ShowStatistics domain) = pool
 
 -- ---- answers
 
--- what virsh dommemstat prints; a page is 4 KiB
+-- what virsh dommemstat prints: `actual` and `rss` in KiB (a page is 4 KiB), and what the driver told, its memory in bytes
 abbrev pub statistics_of : GuestRecord → DomainStatistics
 statistics_of g = record {
   actual = (g.config.size - g.device.actual) * 4;

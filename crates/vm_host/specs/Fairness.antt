@@ -40,7 +40,7 @@ AreFairLines policy w (line ∷ lines) =
 
 -- ---- a boundary
 
--- the revocations of its answers, and its own
+-- a boundary revokes fairly, in its lines and in its own step
 pub record IsFairBoundary (policy : Policy) (w : World) (lines : List (List ℕ)) : Type 0 where
   pub of_lines : AreFairLines policy (opened_boundary w) lines
   pub of_boundary : TakesFromCheapest policy.tax (changed revoked) (settled policy w lines).pool (revocations policy (settled policy w lines))

@@ -6,7 +6,7 @@ use vm_guest::Stats;
 use vm_plan::{Plan, State};
 use vm_reclaim::{Blocked, Paging};
 
-/// Why a command was refused. A refused command changes nothing.
+/// Why a line was refused. A refused line changes nothing.
 #[derive(Clone, Copy, Debug, PartialEq, Eq)]
 pub enum Refusal {
     /// No domain has the name.
@@ -17,7 +17,7 @@ pub enum Refusal {
     NotRunning,
     /// The line is no command.
     BadLine,
-    /// The size or the number of the line can't be read.
+    /// The size or the number of the line can't be read, or is out of range.
     BadSize,
     /// The cap would be below the minimum.
     BelowMinimum,
@@ -29,18 +29,18 @@ pub enum Refusal {
     NoSwap,
 }
 
-/// What `virsh dommemstat` prints of a guest, in KiB where it is memory.
+/// What `virsh dommemstat` prints of a guest.
 #[derive(Clone, Copy, Debug, PartialEq, Eq)]
 pub struct DomainStatistics {
-    /// The memory that the balloon leaves the guest.
+    /// The memory that the balloon leaves the guest, in KiB: its size less the device's `actual`.
     pub actual: u64,
-    /// The memory that the guest holds.
+    /// The memory that the guest holds, in KiB.
     pub rss: u64,
-    /// What the guest's driver told last.
+    /// What the guest's driver told last: memory in bytes, which is printed in KiB.
     pub stats: Stats,
 }
 
-/// What became of a command.
+/// What became of a line.
 #[derive(Clone, Copy, Debug, PartialEq, Eq)]
 pub enum Outcome {
     /// It was obeyed.
@@ -140,9 +140,9 @@ pub struct Boundary {
     pub state: State,
     /// How many frames were free when the state was found.
     pub free: u32,
-    /// The positions of the guests whose targets fell, one for each page, in order.
+    /// The positions of the guests whose targets fell by the boundary's own revocation, one for each page, in order.
     pub revoked: Plan,
-    /// The guests that gave up frames above their targets, in order.
+    /// The guests that gave up frames by the boundary's paging, in order.
     pub paged: Paging,
     /// The positions of the guests whose targets rose, one for each page, in order.
     pub granted: Plan,

@@ -31,7 +31,7 @@ module _ (settings : Settings) (read_old written_old written_new : Option (List 
   WritesFront = IfSome read_old (λ bytes. (count : ℕ) × AppendsFront written_old written_new
       (text_of settings (guest_of settings (take count (drop settings.skip (log_of bytes).accesses)))))
 
-  -- each error has its cause, and says what was written by then
+  -- what was written by then, and the cause, but for `Memory`, which has none
   abbrev pub Fails : (read_failed write_failed : Bool) → ImportError → Type 0
   Fails read_failed write_failed (Line number fault) =
       WritesFront × IfSome read_old (λ bytes. taken_of settings (log_of bytes) ≡ Err (record { number = number; fault = fault }))

@@ -274,7 +274,7 @@ impl Pool {
     }
 
     /// The guest at a position gives back so many frames above its target, one by one: a spare, or else the frame of a victim,
-    /// which goes to its swap area (Waldspurger, OSDI 2002, section 3.1).
+    /// which goes to its swap area (Waldspurger, OSDI 2002, section 3.3).
     pub fn release(&mut self, position: usize, count: u32)
         requires within { position < length self.old.guests }
         requires few { count ≤ surplus_of (guest_at self.old position) }

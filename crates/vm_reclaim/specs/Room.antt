@@ -31,7 +31,7 @@ surplus_counts raise needed pool = surplus_shares (needed - pool.free) (raised r
 abbrev pub with_surplus_back : Option Raise → ℕ → PoolView → PoolView
 with_surplus_back raise needed pool = with_released (surplus_counts raise needed pool) pool
 
--- the guests that then lose a frame each, in order, until so many frames are free
+-- the guests that then lose a page of their target and a frame, once for each, in order, until so many frames are free
 abbrev pub revocations_for_room : Tax → Option Raise → ℕ → PoolView → List ℕ
 revocations_for_room tax raise needed pool =
     let left = with_surplus_back raise needed pool in
@@ -51,6 +51,6 @@ needed_to_start pool position = frames_to_start pool.overhead (slice_get pool.co
 abbrev pub lacking_at : PoolView → ℕ → ℕ → ℕ
 lacking_at pool position least = lacking least (guest_in pool.guests position)
 
--- a minimum that is raised
+-- a minimum that is set
 abbrev pub raise_to : ℕ → ℕ → Option Raise
 raise_to position least = Some (record { position = position; least = least })

@@ -20,7 +20,7 @@ use std::alloc::{AllocError, Global};
 use vm_plan::{Plan, PlanRow, revocations};
 use vm_pool::Pool;
 
-/// A guest's minimum that is raised (`virsh memtune --min-guarantee`).
+/// A guest's minimum that is set (`virsh memtune --min-guarantee`).
 #[derive(Clone, Copy, Debug)]
 pub struct Raise {
     /// The position of the guest.

@@ -31,7 +31,7 @@ pub record Run : Type 0 where
   -- how many epochs it has
   pub epochs : ℕ
 
--- the host after so many epochs, each of which begins with a boundary
+-- the host after so many epochs, each with the boundary before it
 abbrev pub host_after : Run → ℕ → World
 host_after r zero = r.first
 host_after r (suc k) = after_epoch (past_boundary_by r.policy (host_after r k) (r.lines k))

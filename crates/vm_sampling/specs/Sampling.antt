@@ -18,7 +18,7 @@ pub record Sampling : Type 0 where
   pub touched : List Bool
   -- the executed steps of this period
   pub steps : ℕ
-  -- the moving averages of the touched fraction, in parts of the whole
+  -- the moving averages of the touched fraction, in parts of 65536
   pub slow : ℕ
   pub fast : ℕ
 

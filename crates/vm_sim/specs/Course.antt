@@ -44,7 +44,7 @@ after_boundary policy lines w = past_boundary_by policy w lines
 unfoldable pub boundary_of_lines : Policy → List (List ℕ) → World → Boundary
 boundary_of_lines policy lines w = boundary_done policy w lines
 
--- the host after an epoch, which begins with a boundary
+-- the host after a boundary with these lines, and its epoch
 abbrev pub next_world : Policy → List (List ℕ) → World → World
 next_world policy lines w = after_epoch (after_boundary policy lines w)
 

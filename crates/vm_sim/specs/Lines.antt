@@ -47,7 +47,7 @@ fault_lines s =
     memory_line (codes "swap_in") s.swap_in ++ (memory_line (codes "swap_out") s.swap_out
     ++ (count_line (codes "major_fault") s.major_faults ++ count_line (codes "minor_fault") s.minor_faults))
 
--- what the driver told of memory
+-- what the driver told of memory, in virsh's words: free is `unused`, total is `available`, available is `usable`
 unfoldable pub memory_lines : Stats → List ℕ
 memory_lines s =
     memory_line (codes "unused") s.free ++ (memory_line (codes "available") s.total ++ memory_line (codes "usable") s.available)

@@ -29,7 +29,7 @@ module _ (read_old read_new written_old written_new : Option (List ℕ)) where
   abbrev pub WritesFront : Type 0
   WritesFront = RunsConfig read_old read_new (λ config. AppendsFront written_old written_new (report_of config))
 
-  -- each error has its cause, and says what was written by then
+  -- what was written by then, and the cause, but for Memory, which has none, and Workers, whose cause is a clause of its own
   abbrev pub Fails : (limit : ℕ) → (read_failed write_failed : Bool) → RunError → Type 0
   Fails limit read_failed write_failed Workers = Keeps read_old read_new × Keeps written_old written_new
   Fails limit read_failed write_failed Read = Keeps written_old written_new

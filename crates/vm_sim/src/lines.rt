@@ -110,7 +110,7 @@ fn push_statistics(text: &mut String, shown: &DomainStatistics) -> Result<(), Al
     push_number(text, "rss", shown.rss)
 }
 
-// What became of a command.
+// What became of a line.
 #[tactic(auto, unfolding(crate::specs::Lines::outcome_lines))]
 pub(crate) fn push_outcome(text: &mut String, outcome: Outcome) -> Result<(), AllocError>
     ensures { OnOk result (string_bytes text.new ≡ string_bytes text.old ++ outcome_lines outcome) }

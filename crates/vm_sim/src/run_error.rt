@@ -18,7 +18,7 @@ pub enum RunError {
     /// A read failed, or the input is too long.
     #[error("a read failed, or the input is too long")]
     Read,
-    /// A write failed, or took nothing.
+    /// The writer failed: a write gave an error, or took nothing of some bytes.
     #[error("a write failed")]
     Write,
     /// Memory was refused.

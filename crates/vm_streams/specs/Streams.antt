@@ -7,7 +7,8 @@ abbrev pub refuses : {E : Type 0} → Result ℕ E → List ℕ → Bool
 refuses (Ok taken) bytes = (taken == 0) && not (length bytes == 0)
 refuses (Err e) bytes = true
 
--- a front of the text was appended, and nothing else
+-- a front of the text was appended, and nothing else; `None` stands for bytes that aren't known, of which Appends, Keeps, Consumes
+-- and IsAtEnd say nothing, and known ones stay known
 abbrev pub AppendsFront : Option (List ℕ) → Option (List ℕ) → List ℕ → Type 0
 AppendsFront old new text = (count : ℕ) × Appends old new (take count text)
 

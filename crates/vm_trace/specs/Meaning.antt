@@ -59,11 +59,11 @@ step_of_words pages (k ∷ a ∷ b ∷ c ∷ []) =
     else Err Unknown
 step_of_words pages _ = Err Unknown
 
--- no word is empty
+-- the word is empty
 abbrev pub is_empty_word : List ℕ → Bool
 is_empty_word word = length word == 0
 
--- for a guest with this many pages
+-- the step that a text is, with its page, if it has one, below `pages`; or its first fault
 -- the one step that is such: IsSpelled, by vm_trace::law_spelling; a fault is by the function alone
 unfoldable pub step_within : ℕ → List ℕ → Result Step TraceError
 step_within pages text =
