@@ -2,7 +2,6 @@ mod board;
 mod config;
 mod guest;
 mod host;
-mod lanes;
 mod pool;
 mod reclaim;
 

@@ -3,6 +3,7 @@ mod command_line;
 mod ends;
 mod hosts;
 mod lackey;
+mod lanes;
 mod limits;
 mod marks;
 mod plan;

@@ -6,9 +6,8 @@ use crate::text::{Draft, Machine, Text};
 use std::alloc::Global;
 use std::io::Read;
 use std::thread::Threads;
-use vm_charts::svg_text;
 use vm_import::{ImportError, ImportSettings, import_log};
-use vm_series::{Series, collect_series, csv_text};
+use vm_series::{Series, collect_series, csv_text, svg_text};
 use vm_sim::{Open, RunError, Watched, run};
 use vm_sweep::{Lists, Progress, sweep};
 

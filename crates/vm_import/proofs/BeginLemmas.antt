@@ -3,9 +3,9 @@ use Rattle.std.proofs.Common.{◌≡◌, ◌∙◌, ℕ, ◌*◌, ◌≤◌, Lis
 use Rattle.std.proofs.KnownBytes.{Appends-nil}
 use Rattle.std.proofs.lemmas.List.{append-nil}
 use Rattle.std.specs.Io.KnownBytes.{Appends}
-use Rattle.vm_lackey.specs.declared.access.Access.{Access}
-use Rattle.vm_lackey.specs.Logs.{Log}
-use Rattle.vm_working_set.specs.WorkingSets.{WorkingSetView, working_set}
+use Rattle.vm_import.specs.declared.access.Access.{Access}
+use Rattle.vm_import.specs.Logs.{Log}
+use Rattle.vm_import.specs.WorkingSets.{WorkingSetView, working_set}
 use Rattle.vm_import.specs.Drafts.{DraftView}
 use Rattle.vm_import.specs.Guests.{Guest, guest_of}
 use Rattle.vm_import.specs.Importing.{AreTaken}

@@ -2,10 +2,10 @@
 use Rattle.std.proofs.Common.{◌≡◌, ◌∙◌, ℕ, ◌+◌, ◌-◌, ◌≤◌, ◌^◌, inl, inr, Bool, List, [], ◌∷◌, ◌++◌, drop, Option, Some, None, IfSome, Result, refl, sym, ap, subst, arith, append_assoc}
 use Rattle.std.proofs.Math.Seq.{drop-nil}
 use Rattle.std.proofs.lemmas.List.{drop-drop}
-use Rattle.vm_lackey.specs.declared.access.Access.{Access}
-use Rattle.vm_lackey.specs.declared.faults.LineFault.{LineFault}
-use Rattle.vm_lackey.specs.Logs.{FaultAt, Log, log_of}
-use Rattle.vm_lackey.specs.Reading.{BeginsWithFault, Gives, Stays, beginning, left}
+use Rattle.vm_import.specs.declared.access.Access.{Access}
+use Rattle.vm_import.specs.declared.faults.LineFault.{LineFault}
+use Rattle.vm_import.specs.Logs.{FaultAt, Log, log_of}
+use Rattle.vm_import.specs.Reading.{BeginsWithFault, Gives, Stays, beginning, left}
 use Rattle.vm_import.specs.Failing.{CantBeRead, FailsBehind, Skips, without}
 use Rattle.vm_import.specs.Progress.{Reads, SameTaken, Takes}
 use Rattle.vm_import.specs.Settings.{Settings}

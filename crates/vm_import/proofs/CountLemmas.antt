@@ -2,7 +2,7 @@
 use Rattle.std.proofs.Common.{◌≡◌, ◌∙◌, ℕ, ◌+◌, ◌*◌, ◌==◌, ◌≤◌, Bool, true, false, if◌then◌else◌, List, length, refl, ap, arith}
 use Rattle.std.proofs.Math.Nat.{le_of_mul-le-mul_right}
 use Rattle.std.proofs.lemmas.List.{length-map, length-replicate}
-use Rattle.vm_working_set.specs.declared.touch.RankedTouch.{RankedTouch}
+use Rattle.vm_import.specs.declared.touch.RankedTouch.{RankedTouch}
 use Rattle.vm_import.specs.Drafts.{DraftView, all_written, with_steps}
 use Rattle.vm_import.specs.Importing.{after_interval}
 use Rattle.vm_import.specs.Steps.{idle_steps, step_of, steps_of}

@@ -1,9 +1,9 @@
 -- The guest of whole intervals and some accesses of one more.
 use Rattle.std.proofs.Common.{◌≡◌, ◌∙◌, ℕ, suc, ◌+◌, ◌*◌, ◌≤◌, List, [], ◌∷◌, ◌++◌, length, refl, sym, ap, arith, length-append}
-use Rattle.vm_lackey.specs.declared.access.Access.{Access}
-use Rattle.vm_working_set.specs.declared.touch.Touch.{Touch}
-use Rattle.vm_working_set.specs.Kept.{first_touches}
-use Rattle.vm_working_set.specs.WorkingSets.{WorkingSetView, working_set}
+use Rattle.vm_import.specs.declared.access.Access.{Access}
+use Rattle.vm_import.specs.declared.touch.Touch.{Touch}
+use Rattle.vm_import.specs.Kept.{first_touches}
+use Rattle.vm_import.specs.WorkingSets.{WorkingSetView, working_set}
 use Rattle.vm_import.specs.Guests.{guest_of}
 use Rattle.vm_import.specs.Intervals.{cut, intervals_of, kept_in, rounded_up}
 use Rattle.vm_import.specs.Progress.{guest_with, idle_next, kept_of}

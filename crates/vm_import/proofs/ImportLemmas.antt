@@ -2,10 +2,10 @@
 use Rattle.std.proofs.Common.{◌≡◌, ◌∙◌, ◌⊎◌, inl, inr, ℕ, ◌≤◌, ◌^◌, Bool, true, List, [], ◌++◌, length, take, drop, Option, Some, None, IfSome, Result, Ok, Err, refl, sym, ap, subst, arith}
 use Rattle.std.proofs.Math.Seq.{take-append_seam}
 use Rattle.std.specs.Io.KnownBytes.{Appends, Keeps}
-use Rattle.vm_lackey.specs.declared.access.Access.{Access}
-use Rattle.vm_lackey.specs.declared.faults.LineFault.{LineFault}
-use Rattle.vm_lackey.specs.Logs.{FaultAt, Log, log_of}
-use Rattle.vm_lackey.specs.Reading.{Stays, beginning, left, length_in_all}
+use Rattle.vm_import.specs.declared.access.Access.{Access}
+use Rattle.vm_import.specs.declared.faults.LineFault.{LineFault}
+use Rattle.vm_import.specs.Logs.{FaultAt, Log, log_of}
+use Rattle.vm_import.specs.Reading.{Stays, beginning, left, length_in_all}
 use Rattle.vm_streams.specs.Streams.{AppendsFront}
 use Rattle.vm_streams.proofs.StreamLemmas.{AppendsFront-none}
 use Rattle.vm_import.specs.Drafts.{DraftView}

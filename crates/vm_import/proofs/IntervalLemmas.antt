@@ -3,10 +3,10 @@ use Rattle.std.proofs.Common.{◌≡◌, ◌∙◌, ℕ, zero, suc, ◌+◌, ◌
 use Rattle.std.proofs.Math.Nat.{div-eq_of_lt-le}
 use Rattle.std.proofs.lemmas.List.{append-nil, drop-append-le, nil_from_length, take-append-drop, take-append-le, take_all}
 use Rattle.std.proofs.lemmas.Grind.{flat_map-append}
-use Rattle.vm_lackey.specs.declared.access.Access.{Access}
-use Rattle.vm_working_set.specs.declared.touch.Touch.{Touch}
-use Rattle.vm_working_set.specs.declared.touch.RankedTouch.{RankedTouch}
-use Rattle.vm_working_set.specs.WorkingSets.{working_set}
+use Rattle.vm_import.specs.declared.access.Access.{Access}
+use Rattle.vm_import.specs.declared.touch.Touch.{Touch}
+use Rattle.vm_import.specs.declared.touch.RankedTouch.{RankedTouch}
+use Rattle.vm_import.specs.WorkingSets.{working_set}
 use Rattle.vm_import.specs.Intervals.{cut, kept_behind, rounded_up}
 use Rattle.vm_import.specs.Touched.{touched_by, touches_in}
 

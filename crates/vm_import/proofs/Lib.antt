@@ -13,3 +13,15 @@ pub mod DraftLemmas
 pub mod ReadLemmas
 pub mod CountLemmas
 pub mod BeginLemmas
+pub mod AccessLemmas
+pub mod FirstLineLemmas
+pub mod FrontLemmas
+pub mod LogLemmas
+pub mod NumeralLemmas
+pub mod BlockStepLemmas
+pub mod WaitingLemmas
+mod FirstTouchLemmas
+mod MarkLemmas
+mod RankLemmas
+mod SoundLemmas
+mod SetStepLemmas

@@ -4,14 +4,14 @@ use Rattle.std.proofs.Math.Nat.{lt-div-mul-add, mul-le-mul_right}
 use Rattle.std.proofs.Math.Seq.{drop-append_seam, drop-length}
 use Rattle.std.proofs.lemmas.Bool.Decides.{nat_tests}
 use Rattle.std.proofs.lemmas.List.{append-nil, map-append, nil_from_length}
-use Rattle.vm_lackey.specs.declared.access.Access.{Access}
-use Rattle.vm_lackey.specs.declared.faults.LineFault.{LineFault}
-use Rattle.vm_lackey.specs.declared.faults.LogError.{LogError}
-use Rattle.vm_lackey.specs.declared.faults.LogError.TheVariants as reading
-use Rattle.vm_lackey.specs.Logs.{Log}
-use Rattle.vm_lackey.specs.Reading.{BeginsWithFault, Gives, Stays}
-use Rattle.vm_working_set.specs.declared.touch.RankedTouch.{RankedTouch}
-use Rattle.vm_working_set.specs.WorkingSets.{Extends, GoesOn as SetGoesOn, WorkingSetView}
+use Rattle.vm_import.specs.declared.access.Access.{Access}
+use Rattle.vm_import.specs.declared.faults.LineFault.{LineFault}
+use Rattle.vm_import.specs.declared.faults.LogError.{LogError}
+use Rattle.vm_import.specs.declared.faults.LogError.TheVariants as reading
+use Rattle.vm_import.specs.Logs.{Log}
+use Rattle.vm_import.specs.Reading.{BeginsWithFault, Gives, Stays}
+use Rattle.vm_import.specs.declared.touch.RankedTouch.{RankedTouch}
+use Rattle.vm_import.specs.WorkingSets.{Extends, GoesOn as SetGoesOn, WorkingSetView}
 use Rattle.vm_import.specs.Drafts.{DraftView, with_steps}
 use Rattle.vm_import.specs.Errors.{error_of}
 use Rattle.vm_import.specs.Failing.{CantBeRead, FailsBehind, FailsToSkip, Skips}

@@ -1,10 +1,10 @@
 -- What is taken, interval by interval.
 use Rattle.std.proofs.Common.{◌≡◌, ◌∙◌, ℕ, suc, ◌+◌, ◌-◌, ◌*◌, ◌≤◌, List, [], ◌++◌, length, take, Option, Some, None, Result, Ok, Err, OnErr, true, false, refl, sym, ap, subst, arith}
 use Rattle.std.specs.Io.KnownBytes.{Appends}
-use Rattle.vm_lackey.specs.declared.access.Access.{Access}
-use Rattle.vm_lackey.specs.Logs.{Log}
+use Rattle.vm_import.specs.declared.access.Access.{Access}
+use Rattle.vm_import.specs.Logs.{Log}
 use Rattle.vm_streams.specs.Streams.{AppendsFront}
-use Rattle.vm_working_set.specs.WorkingSets.{WorkingSetView}
+use Rattle.vm_import.specs.WorkingSets.{WorkingSetView}
 use Rattle.vm_import.specs.Drafts.{DraftView}
 use Rattle.vm_import.specs.Guests.{Guest, guest_of}
 use Rattle.vm_import.specs.Importing.{AreTaken, IsStopped, IsTaken, after_interval, written_then}

@@ -2,10 +2,10 @@
 use Rattle.std.proofs.Common.{◌≡◌, ◌∙◌, ℕ, ◌+◌, ◌*◌, ◌/◌, ◌<◌, ◌≤◌, List, [], ◌∷◌, ◌++◌, length, take, Option, Some, None, Result, Ok, Err, refl, sym, ap, arith, append_assoc, length-append}
 use Rattle.std.proofs.Math.Nat.{div-eq_of_lt-le}
 use Rattle.std.proofs.Math.Seq.{take-append_seam}
-use Rattle.vm_lackey.specs.declared.access.Access.{Access}
-use Rattle.vm_lackey.specs.declared.faults.LineFault.{LineFault}
-use Rattle.vm_lackey.specs.Logs.{FaultAt, Log, onto}
-use Rattle.vm_lackey.specs.Reading.{BeginsWithFault, Gives}
+use Rattle.vm_import.specs.declared.access.Access.{Access}
+use Rattle.vm_import.specs.declared.faults.LineFault.{LineFault}
+use Rattle.vm_import.specs.Logs.{FaultAt, Log, onto}
+use Rattle.vm_import.specs.Reading.{BeginsWithFault, Gives}
 use Rattle.vm_import.specs.Guests.{guest_of}
 use Rattle.vm_import.specs.Limits.{passed_by}
 use Rattle.vm_import.specs.Progress.{Reads, SameTaken, Takes}

@@ -1,7 +1,7 @@
 -- The steps of one more interval.
 use Rattle.std.proofs.Common.{◌≡◌, ◌∙◌, ℕ, suc, ◌+◌, List, [], ◌∷◌, ◌++◌, length, refl, ap, arith, append_assoc}
 use Rattle.std.proofs.lemmas.List.{append-nil}
-use Rattle.vm_working_set.specs.declared.touch.RankedTouch.{RankedTouch}
+use Rattle.vm_import.specs.declared.touch.RankedTouch.{RankedTouch}
 use Rattle.vm_import.specs.Progress.{idle_next}
 use Rattle.vm_import.specs.Steps.{idle_behind, idle_steps, steps_of, trace_behind, trace_of}
 

@@ -1,6 +1,6 @@
 -- Why no guest is made of a log.
-use Rattle.vm_lackey.specs.declared.faults.LogError.{LogError}
-use Rattle.vm_lackey.specs.declared.faults.LogError.TheVariants as log
+use Rattle.vm_import.specs.declared.faults.LogError.{LogError}
+use Rattle.vm_import.specs.declared.faults.LogError.TheVariants as log
 use Rattle.vm_import.specs.declared.outcome.ImportError.{ImportError}
 use Rattle.vm_import.specs.declared.outcome.ImportError.TheVariants.{Line, Read}
 

@@ -1,8 +1,8 @@
 -- What comes of small logs, by examples.
 use Rattle.std.specs.Prelude.{◌≡◌, ℕ, List, length, Option, None, Ok, Err, codes, true}
-use Rattle.vm_lackey.specs.declared.access.Access.{Access}
-use Rattle.vm_lackey.specs.declared.faults.LineFault.{LineFault}
-use Rattle.vm_lackey.specs.Logs.{log_of}
+use Rattle.vm_import.specs.declared.access.Access.{Access}
+use Rattle.vm_import.specs.declared.faults.LineFault.{LineFault}
+use Rattle.vm_import.specs.Logs.{log_of}
 use Rattle.vm_import.specs.Guests.{guest_of}
 use Rattle.vm_import.specs.Intervals.{intervals_of}
 use Rattle.vm_import.specs.Settings.{Settings}

@@ -1,7 +1,7 @@
 -- Why a log is read no further.
 use Rattle.std.specs.Prelude.{◌≡◌, ◌⊎◌, ℕ, ◌≤◌, ◌^◌, ⊤, Bool, true, [], length, drop, List, Option, Some, None, IfSome, Err}
-use Rattle.vm_lackey.specs.declared.access.Access.{Access}
-use Rattle.vm_lackey.specs.Logs.{Log}
+use Rattle.vm_import.specs.declared.access.Access.{Access}
+use Rattle.vm_import.specs.Logs.{Log}
 use Rattle.vm_import.specs.Progress.{Takes}
 use Rattle.vm_import.specs.Settings.{Settings}
 use Rattle.vm_import.specs.declared.outcome.ImportError.{ImportError}

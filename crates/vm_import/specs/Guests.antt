@@ -1,8 +1,8 @@
 -- The guest that accesses make.
 use Rattle.std.specs.Prelude.{ℕ, ◌+◌, ◌/◌, List, length, min}
 use Rattle.std.specs.Option.{option_map_or}
-use Rattle.vm_lackey.specs.declared.access.Access.{Access}
-use Rattle.vm_working_set.specs.Kept.{first_touches}
+use Rattle.vm_import.specs.declared.access.Access.{Access}
+use Rattle.vm_import.specs.Kept.{first_touches}
 use Rattle.vm_import.specs.Intervals.{intervals_of, kept_in, rounded_up}
 use Rattle.vm_import.specs.Settings.{Settings}
 use Rattle.vm_import.specs.Steps.{trace_of}

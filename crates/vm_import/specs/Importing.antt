@@ -1,10 +1,10 @@
 -- What is taken of a log, interval by interval, and what is written meanwhile. Of the sink it names the bytes before and after.
 use Rattle.std.specs.Prelude.{◌≡◌, ℕ, ◌==◌, Bool, true, if◌then◌else◌, List, [], length, take, Option, Ok}
 use Rattle.std.specs.Io.KnownBytes.{Appends}
-use Rattle.vm_lackey.specs.declared.access.Access.{Access}
-use Rattle.vm_lackey.specs.Logs.{Log}
+use Rattle.vm_import.specs.declared.access.Access.{Access}
+use Rattle.vm_import.specs.Logs.{Log}
 use Rattle.vm_streams.specs.Streams.{AppendsFront}
-use Rattle.vm_working_set.specs.WorkingSets.{WorkingSetView}
+use Rattle.vm_import.specs.WorkingSets.{WorkingSetView}
 use Rattle.vm_import.specs.Drafts.{DraftView, all_written}
 use Rattle.vm_import.specs.Failing.{FailsBehind}
 use Rattle.vm_import.specs.Guests.{guest_of}

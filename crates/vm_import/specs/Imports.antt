@@ -1,8 +1,8 @@
 -- What comes of a log: of the source and the sink it names the bytes before and after, where they are known.
 use Rattle.std.specs.Prelude.{◌≡◌, ◌⊎◌, ℕ, ◌≤◌, ◌^◌, List, length, take, drop, Bool, true, Option, Ok, Err, IfSome}
 use Rattle.std.specs.Io.KnownBytes.{Appends, Keeps}
-use Rattle.vm_lackey.specs.declared.access.Access.{Access}
-use Rattle.vm_lackey.specs.Logs.{log_of}
+use Rattle.vm_import.specs.declared.access.Access.{Access}
+use Rattle.vm_import.specs.Logs.{log_of}
 use Rattle.vm_streams.specs.Streams.{AppendsFront}
 use Rattle.vm_import.specs.Guests.{Guest, guest_of}
 use Rattle.vm_import.specs.Intervals.{intervals_of}

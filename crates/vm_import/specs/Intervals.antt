@@ -1,9 +1,9 @@
 -- Intervals of accesses, and what is kept of each.
 use Rattle.std.specs.Prelude.{ℕ, zero, suc, ◌+◌, ◌-◌, ◌/◌, Bool, List, [], ◌∷◌, ◌++◌, length, take, drop}
-use Rattle.vm_lackey.specs.declared.access.Access.{Access}
-use Rattle.vm_working_set.specs.declared.touch.Touch.{Touch}
-use Rattle.vm_working_set.specs.declared.touch.RankedTouch.{RankedTouch}
-use Rattle.vm_working_set.specs.WorkingSets.{working_set}
+use Rattle.vm_import.specs.declared.access.Access.{Access}
+use Rattle.vm_import.specs.declared.touch.Touch.{Touch}
+use Rattle.vm_import.specs.declared.touch.RankedTouch.{RankedTouch}
+use Rattle.vm_import.specs.WorkingSets.{working_set}
 use Rattle.vm_import.specs.Touched.{touches_in}
 
 -- a quotient, rounded up

@@ -1,9 +1,9 @@
 -- What was made of accesses, while a log is read.
 use Rattle.std.specs.Prelude.{◌≡◌, ℕ, ◌+◌, ◌*◌, ◌≤◌, ◌^◌, Bool, true, false, ⊤, List, [], ◌∷◌, ◌++◌, length, drop, Option, Some, None, IfSome, Result, Ok}
-use Rattle.vm_lackey.specs.declared.access.Access.{Access}
-use Rattle.vm_lackey.specs.Logs.{FaultAt, Log}
-use Rattle.vm_working_set.specs.declared.touch.RankedTouch.{RankedTouch}
-use Rattle.vm_working_set.specs.WorkingSets.{WorkingSetView, working_set}
+use Rattle.vm_import.specs.declared.access.Access.{Access}
+use Rattle.vm_import.specs.Logs.{FaultAt, Log}
+use Rattle.vm_import.specs.declared.touch.RankedTouch.{RankedTouch}
+use Rattle.vm_import.specs.WorkingSets.{WorkingSetView, working_set}
 use Rattle.vm_import.specs.Drafts.{DraftView}
 use Rattle.vm_import.specs.Guests.{Guest, guest_of}
 use Rattle.vm_import.specs.Intervals.{intervals_of, kept_in}

@@ -1,7 +1,7 @@
 -- The steps of a trace, as texts.
 use Rattle.std.specs.Prelude.{ℕ, ◌+◌, ◌-◌, ◌*◌, ◌/◌, ◌%◌, nat_lt, if◌then◌else◌, List, [], ◌∷◌, ◌++◌, length, map, max, replicate, codes}
 use Rattle.std.specs.Fmt.{decimal}
-use Rattle.vm_working_set.specs.declared.touch.RankedTouch.{RankedTouch}
+use Rattle.vm_import.specs.declared.touch.RankedTouch.{RankedTouch}
 use Rattle.vm_import.specs.Intervals.{rounded_up}
 
 -- a digit below 16, in lower case

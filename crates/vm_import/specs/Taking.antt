@@ -1,7 +1,7 @@
 -- How far a log is taken.
 use Rattle.std.specs.Prelude.{ℕ, ◌*◌, ◌/◌, List, [], ◌∷◌, ◌++◌, length, take, drop, Option, Some, None, Result, Ok, Err}
-use Rattle.vm_lackey.specs.declared.access.Access.{Access}
-use Rattle.vm_lackey.specs.Logs.{FaultAt, Log}
+use Rattle.vm_import.specs.declared.access.Access.{Access}
+use Rattle.vm_import.specs.Logs.{FaultAt, Log}
 use Rattle.vm_import.specs.Guests.{guest_of}
 use Rattle.vm_import.specs.Limits.{passed_by}
 use Rattle.vm_import.specs.Settings.{Settings}

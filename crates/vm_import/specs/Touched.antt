@@ -1,13 +1,13 @@
 -- What the accesses of a log touch.
 use Rattle.std.specs.Prelude.{Bool, true, false, not, ◌&&◌, List, [], if◌then◌else◌}
 use Rattle.std.specs.List.{flat_map}
-use Rattle.vm_lackey.specs.declared.access.Access.{Access}
-use Rattle.vm_lackey.specs.declared.access.AccessKind.{AccessKind}
-use Rattle.vm_lackey.specs.declared.access.AccessKind.TheVariants as kind
-use Rattle.vm_working_set.specs.declared.touch.Effect.{Effect}
-use Rattle.vm_working_set.specs.declared.touch.Effect.TheVariants as effect
-use Rattle.vm_working_set.specs.declared.touch.Touch.{Touch}
-use Rattle.vm_working_set.specs.Touches.{touches_of}
+use Rattle.vm_import.specs.declared.access.Access.{Access}
+use Rattle.vm_import.specs.declared.access.AccessKind.{AccessKind}
+use Rattle.vm_import.specs.declared.access.AccessKind.TheVariants as kind
+use Rattle.vm_import.specs.declared.touch.Effect.{Effect}
+use Rattle.vm_import.specs.declared.touch.Effect.TheVariants as effect
+use Rattle.vm_import.specs.declared.touch.Touch.{Touch}
+use Rattle.vm_import.specs.Touches.{touches_of}
 
 -- what an access does to the bytes that it reaches
 abbrev pub effect_of : AccessKind → Effect

@@ -10,10 +10,10 @@ ghost use Rattle.vm_streams.specs.Streams.{AppendsFront};
 use crate::numbers::{hex_digit, push_decimal};
 use crate::settings::ImportSettings;
 use crate::texts::{head_text, tail_text};
+use crate::touch::RankedTouch;
 use std::alloc::{AllocError, Global};
 use std::marker::Model;
 use vm_streams::{Sink, WriteFailed, write_text};
-use vm_working_set::RankedTouch;
 
 /// A clause sees the text that waits to be written, how many bytes were written before it, and how many steps there are in all.
 #[derive(Drop)]

@@ -9,18 +9,18 @@ ghost use Rattle.vm_import.specs.Texts.{head_of};
 ghost use Rattle.vm_import.specs.declared.interval.IntervalEnd.TheVariants.{Absent, Last, Passes};
 ghost use Rattle.vm_import.specs.declared.limits.Limit.{Limit};
 ghost use Rattle.vm_import.specs.declared.outcome.ImportError.TheVariants.{Read, Write};
-ghost use Rattle.vm_lackey.specs.declared.access.Access.{Access};
-ghost use Rattle.vm_lackey.specs.Reading.{left, length_in_all};
+ghost use Rattle.vm_import.specs.declared.access.Access.{Access};
+ghost use Rattle.vm_import.specs.Reading.{left, length_in_all};
 ghost use Rattle.vm_streams.specs.Streams.{AppendsFront, NewlyFailed};
-ghost use Rattle.vm_working_set.specs.WorkingSets.{working_set};
+ghost use Rattle.vm_import.specs.WorkingSets.{working_set};
 
 use crate::interval::{Interval, IntervalEnd, read_interval, skip};
 use crate::outcome::{ImportError, Imported};
 use crate::progress::Progress;
+use crate::reader::LogReader;
 use crate::settings::ImportSettings;
 use crate::sizes::idle_behind;
 use std::alloc::Global;
-use vm_lackey::LogReader;
 use vm_streams::{Sink, Source};
 
 // What is taken of a log.

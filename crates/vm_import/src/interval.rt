@@ -6,14 +6,14 @@ ghost use Rattle.vm_import.specs.Progress.{EndsSo, IfTaken, IsReady, IsShort, Is
 ghost use Rattle.vm_import.specs.Settings.{settings_of};
 ghost use Rattle.vm_import.specs.Steps.{idle_steps, steps_of};
 ghost use Rattle.vm_import.specs.declared.outcome.ImportError.TheVariants.{Read};
-ghost use Rattle.vm_lackey.specs.declared.access.Access.{Access};
-ghost use Rattle.vm_lackey.specs.Reading.{Stays, left, length_in_all};
+ghost use Rattle.vm_import.specs.declared.access.Access.{Access};
+ghost use Rattle.vm_import.specs.Reading.{Stays, left, length_in_all};
 
 use crate::limits::Limit;
 use crate::outcome::ImportError;
 use crate::progress::Progress;
+use crate::reader::LogReader;
 use crate::settings::ImportSettings;
-use vm_lackey::LogReader;
 use vm_streams::Source;
 
 // How the reading of an interval ended.

@@ -3,10 +3,10 @@ ghost use Rattle.vm_import.specs.declared.outcome.ImportError.TheVariants.{Line,
 ghost use Rattle.vm_import.specs.Errors.{error_of};
 ghost use Rattle.std.specs.Prelude.{◌≡◌};
 
+use crate::faults::{LineFault, LogError};
 use crate::limits::Limit;
 use std::alloc::AllocError;
 use thiserror::Error;
-use vm_lackey::{LineFault, LogError};
 use vm_streams::WriteFailed;
 
 /// How far a log was taken.

@@ -6,16 +6,17 @@ ghost use Rattle.vm_import.specs.Settings.{settings_of};
 ghost use Rattle.vm_import.specs.Steps.{steps_of};
 ghost use Rattle.vm_import.specs.Texts.{head_of};
 ghost use Rattle.vm_import.specs.Touched.{effect_of, touched_by};
-ghost use Rattle.vm_lackey.specs.Accesses.{IsAccess};
-ghost use Rattle.vm_working_set.specs.WorkingSets.{Extends, GoesOn, working_set};
+ghost use Rattle.vm_import.specs.Accesses.{IsAccess};
+ghost use Rattle.vm_import.specs.WorkingSets.{Extends, GoesOn, working_set};
 
+use crate::access::{Access, AccessKind};
 use crate::draft::Draft;
 use crate::limits::{Limit, limit_passed};
 use crate::settings::ImportSettings;
 use crate::texts::tail_len;
+use crate::touch::Effect;
+use crate::working_set::WorkingSet;
 use std::alloc::{AllocError, Global};
-use vm_lackey::{Access, AccessKind};
-use vm_working_set::{Effect, WorkingSet};
 
 // What was made of the accesses so far: what they touch, and the text of the guest.
 #[derive(Drop)]

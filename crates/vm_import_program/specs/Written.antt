@@ -5,7 +5,7 @@ use Rattle.vm_import.specs.Imports.{Fails, WritesFront, WritesGuest}
 use Rattle.vm_import.specs.Settings.{Settings}
 use Rattle.vm_import.specs.declared.outcome.ImportError.{ImportError}
 use Rattle.vm_import.specs.declared.outcome.Imported.{Imported}
-use Rattle.vm_import_words.specs.CommandLine.{rows_of, settings_in}
+use Rattle.vm_import_program.specs.CommandLine.{rows_of, settings_in}
 use Rattle.vm_import_program.specs.Statuses.{status_of}
 
 -- what words ask for, of which the first is the program's name

@@ -2,8 +2,8 @@
 ghost use Rattle.std.specs.Prelude.{◌≡◌};
 ghost use Rattle.vm_import_program.specs.Statuses.{status_of};
 
+use crate::line::LINE;
 use vm_import::{ImportError, Imported};
-use vm_import_words::LINE;
 
 // Says which limit ended the import, if one did.
 pub(crate) fn tell_limit(system: &impl Eprint, imported: Imported) {

@@ -5,15 +5,16 @@ ghost use Rattle.std.specs.Process.{exit_status};
 ghost use Rattle.clap.specs.Words.{Text};
 ghost use Rattle.vm_import.specs.Settings.{settings_of};
 ghost use Rattle.vm_import_program.specs.Written.{IsRefused, IsStopped, IsWritten, settings_by};
-ghost use Rattle.vm_import_words.specs.Taken.{AreTaken};
+ghost use Rattle.vm_import_program.specs.Taken.{AreTaken};
 ghost use Rattle.vm_streams.specs.Streams.{NewlyFailed};
 
 use crate::complaints::{complain, tell_limit};
+use crate::line::LINE;
+use crate::words::read_words;
 use std::io;
 use std::process::ExitCode;
 use std::rt::Env;
 use vm_import::{ImportSettings, import_log};
-use vm_import_words::{LINE, read_words};
 use vm_streams::{Sink, Source, Watched};
 use vm_words::DONE;
 

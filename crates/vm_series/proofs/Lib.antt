@@ -1,3 +1,4 @@
 pub mod RowLemmas
 pub mod CsvLemmas
 pub mod RecordLemmas
+pub mod SeriesLemmas

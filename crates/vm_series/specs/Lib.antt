@@ -1,3 +1,5 @@
 pub mod Rows
 pub mod Csv
 pub mod Records
+pub mod Samples
+pub mod Series

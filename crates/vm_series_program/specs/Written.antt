@@ -2,7 +2,7 @@
 use Rattle.std.specs.Prelude.{◌≡◌, ◌⊎◌, ℕ, Bool, true, false, List, Option, Err}
 use Rattle.std.specs.Io.KnownBytes.{Appends, Keeps}
 use Rattle.vm_drawing.specs.Picture.{svg_of}
-use Rattle.vm_charts.specs.Series.{drawing_of}
+use Rattle.vm_series.specs.Series.{drawing_of}
 use Rattle.vm_config.specs.Reading.{config_of}
 use Rattle.vm_series.specs.Csv.{csv_text}
 use Rattle.vm_series.specs.Rows.{Rows, rows_of}

@@ -11,9 +11,8 @@ ghost use Rattle.vm_words.specs.Words.{has_flag};
 use crate::line::SVG;
 use std::alloc::{AllocError, Global};
 use std::thread::Threads;
-use vm_charts::svg_text;
 use vm_command_line::workers_of;
-use vm_series::{Series, collect_series, csv_text};
+use vm_series::{Series, collect_series, csv_text, svg_text};
 use vm_sim::{Open, RunError, Sink, write_text};
 use vm_words::Request;
 

@@ -8,8 +8,8 @@ use Rattle.vm_drawing.specs.Picture.{svg_of}
 use Rattle.vm_guest.specs.Record.{saturated}
 use Rattle.vm_sweep.specs.Combinations.{ValueLists}
 use Rattle.vm_sweep.specs.Drawn.{curves_of, drawing_of, runs_of}
-use Rattle.vm_sweep_charts.specs.SweepDrawing.{sweep_drawing}
-use Rattle.vm_sweep_charts.specs.declared.runs.SweptRun.{SweptRun}
+use Rattle.vm_sweep.specs.SweepDrawing.{sweep_drawing}
+use Rattle.vm_sweep.specs.declared.runs.SweptRun.{SweptRun}
 
 -- the runs of a round come behind those before it
 pub more-runs : {X Y : Type 0} (f : X → Y) (before done after : List X) (old new whole : List Y) → before ≡ done ++ after

@@ -12,8 +12,8 @@ use Rattle.vm_streams.specs.Streams.{AppendsFront}
 use Rattle.vm_sweep.specs.Combinations.{ValueLists, combinations}
 use Rattle.vm_sweep.specs.Orders.{Order, order_of}
 use Rattle.vm_sweep.specs.declared.outcome.Detail.TheVariants.{Run}
-use Rattle.vm_sweep_charts.specs.SweepDrawing.{sweep_drawing}
-use Rattle.vm_sweep_charts.specs.declared.runs.SweptRun.{SweptRun}
+use Rattle.vm_sweep.specs.SweepDrawing.{sweep_drawing}
+use Rattle.vm_sweep.specs.declared.runs.SweptRun.{SweptRun}
 use Rattle.vm_tally.specs.Combinations.{Values, configured, values_of}
 use Rattle.vm_tally.specs.Summary.{summary_of}
 use Rattle.vm_tally.specs.declared.summary.Summary.{Summary}

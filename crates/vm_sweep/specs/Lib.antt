@@ -5,3 +5,9 @@ pub mod Outcomes
 pub mod Rounds
 pub mod Table
 pub mod Written
+pub mod SweptRuns
+pub mod CurveNames
+pub mod SweepDrawing
+pub mod OnAxis
+pub mod Offers
+pub mod Lanes

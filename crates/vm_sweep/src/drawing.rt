@@ -8,18 +8,19 @@ ghost use Rattle.vm_streams.specs.Streams.{NewlyFailed};
 ghost use Rattle.vm_sweep.specs.Drawn.{FailsOnDrawing, drawing_of, swept_of};
 ghost use Rattle.vm_sweep.specs.Rounds.{IsUnderWay};
 
+use crate::charts::sweep_svg;
 use crate::job::{RunDone, RunJob, Workplace};
 use crate::lists::Lists;
 use crate::outcome::{Detail, Outcome};
 use crate::progress::Progress;
 use crate::rounds::{prepare, run_next};
+use crate::runs::SweptRun;
 use std::alloc::{AllocError, Global};
 use std::thread::Threads;
 use std::vec::IntoIter;
 use vm_config::{Config, read_config};
 use vm_sim::RunError;
 use vm_streams::{Sink, write_text};
-use vm_sweep_charts::{SweptRun, sweep_svg};
 
 // What is drawn of a run, if memory lasted for it.
 fn swept_of(done: &RunDone) -> Option<SweptRun>

@@ -7,11 +7,11 @@ ghost use Rattle.vm_tally.specs.Combinations.{configured};
 
 use crate::outcome::{Detail, Outcome, run_told};
 use crate::small_blocks::SmallBlocks;
+use crate::task::Task;
 use std::alloc::Global;
 use std::marker::Model;
 use std::snapshot::Snapshot;
 use vm_config::Config;
-use vm_lanes::Task;
 use vm_tally::Combination;
 
 /// A run that is wanted. To a contract it is its values, the configuration whose own they take the place of, and what is told of it.

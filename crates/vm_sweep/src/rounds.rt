@@ -9,11 +9,11 @@ ghost use Rattle.vm_tally.specs.Combinations.{values_of};
 use crate::job::{RunDone, RunJob, Workplace};
 use crate::lists::Lists;
 use crate::outcome::Detail;
+use crate::round::run_round_with;
 use std::alloc::{AllocError, Global};
 use std::thread::Threads;
 use std::vec::IntoIter;
 use vm_config::Config;
-use vm_lanes::run_round_with;
 use vm_tally::Combination;
 
 // The runs of a configuration with each of these combinations, in order.

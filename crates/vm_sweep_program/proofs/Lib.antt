@@ -1,2 +1,4 @@
 mod RangeLemmas
 mod StatusLemmas
+pub mod ReadLemmas
+pub mod TakenLemmas

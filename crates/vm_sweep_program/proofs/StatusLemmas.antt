@@ -16,8 +16,8 @@ use Rattle.vm_sweep.specs.Drawn.{FailsOnDrawing}
 use Rattle.vm_sweep.specs.Table.{guest_rows_of, rows_of}
 use Rattle.vm_sweep.specs.Written.{FailsOnTable, WritesFirst}
 use Rattle.vm_sweep_program.specs.Written.{FailsOnSweep, StopsEarly, sweep_of}
-use Rattle.vm_sweep_words.specs.declared.asked.Form.{Form}
-use Rattle.vm_sweep_words.specs.declared.asked.Form.TheVariants.{Drawing, Guests, Table}
+use Rattle.vm_sweep_program.specs.declared.asked.Form.{Form}
+use Rattle.vm_sweep_program.specs.declared.asked.Form.TheVariants.{Drawing, Guests, Table}
 
 -- some of the rows are a front of all
 front-of_some : (old new : Option (List ℕ)) (rows : List (List ℕ)) → WritesFirst old new rows → AppendsFront old new (concat rows)

@@ -2,8 +2,8 @@
 use Rattle.std.specs.Prelude.{◌≡◌, List, Ok}
 use Rattle.clap.specs.Words.{Text}
 use Rattle.vm_sweep.specs.Combinations.{ValueLists}
-use Rattle.vm_sweep_words.specs.CommandLine.{rows_of}
-use Rattle.vm_sweep_words.specs.Lists.{Lists, lists_of}
+use Rattle.vm_sweep_program.specs.CommandLine.{rows_of}
+use Rattle.vm_sweep_program.specs.Lists.{Lists, lists_of}
 
 -- the same lists, as those of a sweep
 abbrev pub value_lists : Lists → ValueLists

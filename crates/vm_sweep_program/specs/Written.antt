@@ -10,10 +10,10 @@ use Rattle.vm_sweep.specs.Combinations.{ValueLists}
 use Rattle.vm_sweep.specs.Drawn.{FailsOnDrawing, drawing_of}
 use Rattle.vm_sweep.specs.Table.{guest_rows_of, guest_table_of, rows_of, table_of}
 use Rattle.vm_sweep.specs.Written.{FailsOnTable}
-use Rattle.vm_sweep_words.specs.CommandLine.{form_of, rows_of as rows_in}
-use Rattle.vm_sweep_words.specs.Lists.{Lists}
-use Rattle.vm_sweep_words.specs.declared.asked.Form.{Form}
-use Rattle.vm_sweep_words.specs.declared.asked.Form.TheVariants.{Drawing, Guests, Table}
+use Rattle.vm_sweep_program.specs.CommandLine.{form_of, rows_of as rows_in}
+use Rattle.vm_sweep_program.specs.Lists.{Lists}
+use Rattle.vm_sweep_program.specs.declared.asked.Form.{Form}
+use Rattle.vm_sweep_program.specs.declared.asked.Form.TheVariants.{Drawing, Guests, Table}
 use Rattle.vm_sweep_program.specs.Asking.{AskFor, value_lists}
 
 -- a sweep of a configuration in this form: its table, its table by guests, or its drawing

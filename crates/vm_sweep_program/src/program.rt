@@ -7,17 +7,19 @@ ghost use Rattle.vm_command_line.specs.Statuses.{IsRefused};
 ghost use Rattle.vm_streams.specs.Streams.{NewlyFailed};
 ghost use Rattle.vm_sweep_program.specs.Asking.{value_lists};
 ghost use Rattle.vm_sweep_program.specs.Written.{StopsEarly, StopsEarlyOn, WritesSweep, WritesSweepOf};
-ghost use Rattle.vm_sweep_words.specs.Lists.{AreWithin, lists_in};
-ghost use Rattle.vm_sweep_words.specs.Taken.{AreTaken};
+ghost use Rattle.vm_sweep_program.specs.Lists.{AreWithin, lists_in};
+ghost use Rattle.vm_sweep_program.specs.Taken.{AreTaken};
 
+use crate::asked::Asked;
+use crate::line::LINE;
 use crate::running::write_sweep;
+use crate::words::read_words;
 use std::io;
 use std::process::ExitCode;
 use std::rt::Env;
 use std::thread::Threads;
 use vm_command_line::{complain, complain_of_text};
 use vm_sim::{Sink, Source, Watched, read_text};
-use vm_sweep_words::{Asked, LINE, read_words};
 use vm_words::DONE;
 
 // Does what was asked for, and gives the status to end with.

@@ -6,13 +6,13 @@ ghost use Rattle.vm_sim.specs.Run.{MeansConfig};
 ghost use Rattle.vm_streams.specs.Streams.{NewlyFailed};
 ghost use Rattle.vm_sweep_program.specs.Asking.{value_lists};
 ghost use Rattle.vm_sweep_program.specs.Written.{FailsOnSweep, sweep_of};
-ghost use Rattle.vm_sweep_words.specs.Lists.{AreWithin, lists_in};
+ghost use Rattle.vm_sweep_program.specs.Lists.{AreWithin, lists_in};
 
+use crate::asked::{Asked, Form};
 use crate::telling::Telling;
 use std::thread::Threads;
 use vm_sim::{RunError, Sink};
 use vm_sweep::{Lists, draw_sweep, sweep, sweep_guests};
-use vm_sweep_words::{Asked, Form};
 
 /// Runs the configuration that a text is as is asked for, and writes the sweep in the form that is asked for.
 pub(crate) fn write_sweep<RT: Threads + Sync, W: Sink>(

@@ -1,6 +1,6 @@
 //! What is said while runs go on.
+use crate::line::LINE;
 use vm_sweep::Progress;
-use vm_sweep_words::LINE;
 
 /// Says on standard error how many runs are told, where that is wanted.
 #[derive(Drop)]

@@ -4,10 +4,9 @@ use std::alloc::{AllocError, Global};
 use std::process::Abort;
 use std::test::Fail;
 use std::thread::Threads;
-use vm_charts::svg_text;
 use vm_drawing::{Axis, Chart, Curve, Drawing, draw};
 use vm_host::Open;
-use vm_series::collect_series;
+use vm_series::{collect_series, svg_text};
 
 fn drawn(rt: &(impl Abort + AllocGlobal + Threads + Sync), config: &str) -> String {
     let series = collect_series(rt, rt.alloc(), &Open, 1, config.as_bytes()).expect(rt, "a run");

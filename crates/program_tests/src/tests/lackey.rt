@@ -4,7 +4,7 @@ use std::alloc::Global;
 use std::io;
 use std::io::{Error, ErrorKind, Read};
 use std::process::Abort;
-use vm_lackey::{Access, AccessKind, LineFault, LogError, LogReader};
+use vm_import::{Access, AccessKind, LineFault, LogError, LogReader};
 use vm_streams::Watched;
 
 type Next = Result<Option<Access>, LogError>;

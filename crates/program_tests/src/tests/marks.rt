@@ -6,9 +6,8 @@ use std::alloc::{AllocError, Global};
 use std::process::Abort;
 use std::test::Fail;
 use std::thread::Threads;
-use vm_charts::svg_text;
 use vm_host::{GuestView, Open};
-use vm_series::{EpochRow, Series, collect_series};
+use vm_series::{EpochRow, Series, collect_series, svg_text};
 
 // ---- samples
 

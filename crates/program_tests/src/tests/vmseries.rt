@@ -6,8 +6,7 @@ use super::system::{assert_has_spoken, assert_said, assert_status, with_words};
 use std::process::Abort;
 use std::test::Fail;
 use std::thread::Threads;
-use vm_charts::svg_text;
-use vm_series::{collect_series, csv_text};
+use vm_series::{collect_series, csv_text, svg_text};
 use vm_series_program::status;
 use vm_sim::Open;
 

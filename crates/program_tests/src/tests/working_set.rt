@@ -3,7 +3,7 @@ ghost use Rattle.std.specs.Prelude.{◌+◌, ◌≤◌, ◌^◌};
 
 use super::check_eq;
 use std::process::Abort;
-use vm_working_set::{Effect, RankedTouch, WorkingSet};
+use vm_import::{Effect, RankedTouch, WorkingSet};
 
 // Adds an access.
 fn add(rt: &impl Abort, set: &mut WorkingSet, effect: Effect, address: u64, size: u16)

@@ -1,6 +1,6 @@
 use Rattle.std.proofs.Common.{◌≤◌, subst, arith}
 use Rattle.std.specs.Io.KnownBytes.{Appends}
-use Rattle.vm_lackey.specs.Reading.{Place, Stays, beginning, left, length_in_all}
+use Rattle.vm_import.specs.Reading.{Place, Stays, beginning, left, length_in_all}
 use Rattle.vm_streams.specs.Streams.{AppendsFront}
 use Rattle.vm_import.specs.Drafts.{DraftView}
 use Rattle.vm_import.specs.Failing.{FailsToSkip, Skips}

@@ -1,7 +1,7 @@
 use Rattle.std.proofs.Common.{◌≡◌, ◌∙◌, List, length, ap, refl, subst, arith}
 use Rattle.std.proofs.lemmas.Grind.{common_steps}
-use Rattle.vm_working_set.specs.declared.touch.RankedTouch.{RankedTouch}
-use Rattle.vm_working_set.specs.WorkingSets.{Begins, WorkingSetView}
+use Rattle.vm_import.specs.declared.touch.RankedTouch.{RankedTouch}
+use Rattle.vm_import.specs.WorkingSets.{Begins, WorkingSetView}
 use Rattle.vm_import.specs.Importing.{after_interval}
 use Rattle.vm_import.specs.Settings.{settings_of}
 use Rattle.vm_import.specs.Steps.{idle_behind}

@@ -1,5 +1,5 @@
 use Rattle.std.proofs.Common.{rules, ◌≡◌, ◌∙◌, ℕ, List, ◌+◌, ◌*◌, ◌≤◌, None, length, ap, refl, subst, sym, arith}
-use Rattle.vm_lackey.specs.Reading.{left}
+use Rattle.vm_import.specs.Reading.{left}
 use Rattle.vm_import.specs.Drafts.{DraftView, with_steps}
 use Rattle.vm_import.specs.Importing.{AreTaken, IsStopped}
 use Rattle.vm_import.specs.Progress.{EndsSo, IfTaken, limit_of}

@@ -1,5 +1,5 @@
 use Rattle.std.proofs.Common.{◌≡◌, ◌+◌, ◌-◌, ◌*◌, ◌≤◌, ◌^◌, [], length}
-use Rattle.vm_lackey.specs.Reading.{Stays, left, length_in_all}
+use Rattle.vm_import.specs.Reading.{Stays, left, length_in_all}
 use Rattle.vm_import.specs.Importing.{AreTaken}
 use Rattle.vm_import.specs.Settings.{settings_of}
 use Rattle.vm_import.proofs.import.take_intervals.Given as goal

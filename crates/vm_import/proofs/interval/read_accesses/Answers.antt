@@ -1,6 +1,6 @@
 use Rattle.std.proofs.Common.{rules, ◌≡◌, ◌∙◌, ◌<◌, ◌==◌, inr, List, [], ◌∷◌, ◌++◌, None, Option, length, sym, subst, arith, length-append}
-use Rattle.vm_lackey.specs.declared.access.Access.{Access}
-use Rattle.vm_lackey.specs.Reading.{Gives, left, length_in_all}
+use Rattle.vm_import.specs.declared.access.Access.{Access}
+use Rattle.vm_import.specs.Reading.{Gives, left, length_in_all}
 use Rattle.vm_import.specs.Errors.{error_of}
 use Rattle.vm_import.specs.Failing.{FailsBehind}
 use Rattle.vm_import.specs.Progress.{IsUnderWay, limit_of}

@@ -1,6 +1,6 @@
 use Rattle.std.proofs.Common.{◌≡◌, ◌<◌, ◌≤◌, List, [], length, None}
-use Rattle.vm_lackey.specs.declared.access.Access.{Access}
-use Rattle.vm_lackey.specs.Reading.{Stays, left, length_in_all}
+use Rattle.vm_import.specs.declared.access.Access.{Access}
+use Rattle.vm_import.specs.Reading.{Stays, left, length_in_all}
 use Rattle.vm_import.specs.Progress.{GoesOn, IsShort, IsUnderWay, limit_of}
 use Rattle.vm_import.specs.Drafts.{with_steps}
 use Rattle.vm_import.specs.Steps.{steps_of}

@@ -1,6 +1,6 @@
 use Rattle.std.proofs.Common.{List, [], subst, sym}
-use Rattle.vm_lackey.specs.declared.access.Access.{Access}
-use Rattle.vm_lackey.specs.Reading.{left, length_in_all}
+use Rattle.vm_import.specs.declared.access.Access.{Access}
+use Rattle.vm_import.specs.Reading.{left, length_in_all}
 use Rattle.vm_import.specs.Failing.{FailsBehind}
 use Rattle.vm_import.specs.Progress.{IsReady, IsUnderWay}
 use Rattle.vm_import.specs.Settings.{settings_of}

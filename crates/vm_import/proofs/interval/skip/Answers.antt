@@ -1,5 +1,5 @@
 use Rattle.std.proofs.Common.{rules, inr, arith}
-use Rattle.vm_lackey.specs.Reading.{left, length_in_all}
+use Rattle.vm_import.specs.Reading.{left, length_in_all}
 use Rattle.vm_import.specs.Errors.{error_of}
 use Rattle.vm_import.specs.Failing.{FailsToSkip}
 use Rattle.vm_import.proofs.ComposedLemmas.{Stays-then}

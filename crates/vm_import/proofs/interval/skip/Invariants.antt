@@ -1,5 +1,5 @@
 use Rattle.std.proofs.Common.{◌≡◌}
-use Rattle.vm_lackey.specs.Reading.{Stays, left, length_in_all}
+use Rattle.vm_import.specs.Reading.{Stays, left, length_in_all}
 use Rattle.vm_import.specs.Failing.{Skips}
 use Rattle.vm_import.proofs.interval.skip.Given as goal
 

@@ -1,10 +1,10 @@
 use Rattle.std.proofs.Common.{refl}
 use Rattle.std.specs.Fmt.{digits}
-use Rattle.vm_lackey.specs.Lines.{access_of, access_with, address_of, kind_of, line_of, process_of, size_of}
-use Rattle.vm_lackey.specs.Logs.{log_of_lines}
-use Rattle.vm_lackey.specs.Numerals.{numeral_of}
-use Rattle.vm_working_set.specs.Touches.{touches_of}
-use Rattle.vm_working_set.specs.WorkingSets.{working_set}
+use Rattle.vm_import.specs.Lines.{access_of, access_with, address_of, kind_of, line_of, process_of, size_of}
+use Rattle.vm_import.specs.Logs.{log_of_lines}
+use Rattle.vm_import.specs.Numerals.{numeral_of}
+use Rattle.vm_import.specs.Touches.{touches_of}
+use Rattle.vm_import.specs.WorkingSets.{working_set}
 use Rattle.vm_import.specs.Guests.{guest_of}
 use Rattle.vm_import.specs.Limits.{passed_by}
 use Rattle.vm_import.specs.Steps.{idle_steps, step_of, trace_of}

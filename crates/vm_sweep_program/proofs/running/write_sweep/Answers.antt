@@ -1,8 +1,8 @@
 use Rattle.std.proofs.Common.{refl}
 use Rattle.vm_config.specs.declared.settings.Setting.TheVariants as setting
 use Rattle.vm_sweep_program.proofs.RangeLemmas.{in-range}
-use Rattle.vm_sweep_words.specs.Keys.{limits_of}
-use Rattle.vm_sweep_words.specs.declared.keys.SweptKey.TheVariants as key
+use Rattle.vm_sweep_program.specs.Keys.{limits_of}
+use Rattle.vm_sweep_program.specs.declared.keys.SweptKey.TheVariants as key
 use Rattle.vm_sweep_program.proofs.running.write_sweep.Goals as goal
 
 pub new-lists-requires-clause-frames : goal.new-lists-requires-clause-frames

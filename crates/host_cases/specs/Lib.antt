@@ -1,4 +1,0 @@
-pub mod Examples
-pub mod Corners
-pub mod Drawn
-pub mod Numbers

@@ -1,7 +1,0 @@
-use Rattle.vm_drawing.proofs.StackedLemmas.{stacked}
-use Rattle.vm_charts.proofs.SeriesLemmas.{series-has_words}
-use Rattle.vm_charts.specs.Series.{drawing_of}
-use Rattle.vm_charts.proofs.law.law_series.Goals as goal
-
-pub returns : goal.returns
-returns c s = stacked (drawing_of s).along (drawing_of s).axis 70 (drawing_of s).charts (series-has_words s)

@@ -1,8 +1,0 @@
-use Rattle.std.proofs.Common.{[]}
-use Rattle.vm_drawing.proofs.PictureLemmas.{one_more}
-use Rattle.vm_charts.specs.Series.{target_curve}
-use Rattle.vm_charts.proofs.series.target_curves.Goals as goal
-
-pub loop-position-preserved : goal.loop-position-preserved
-loop-position-preserved c =
-    one_more (target_curve c.args.series.now) c.loop-position.position [] _ _ c.loop-position.invariant c.in_ok-push_target.ensures

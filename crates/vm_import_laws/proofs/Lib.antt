@@ -1,9 +1,0 @@
-pub mod TokenLemmas
-pub mod SafeLemmas
-pub mod JsonLemmas
-pub mod TextLemmas
-pub mod TakenLemmas
-pub mod RankLemmas
-pub mod StepLemmas
-pub mod ConfigLemmas
-pub mod LawLemmas

@@ -1,9 +1,0 @@
-pub mod Accesses
-pub mod Examples
-pub mod Lines
-pub mod Logs
-pub mod Numerals
-pub mod Plain
-pub mod Reading
-pub mod Steps
-pub mod Waiting

@@ -1,0 +1,16 @@
+pub mod SumLemmas
+pub mod TextLemmas
+pub mod LineLemmas
+pub mod ColumnLemmas
+pub mod PieceLemmas
+pub mod MostLemmas
+pub mod NameLemmas
+pub mod TokenLemmas
+pub mod SafeLemmas
+pub mod JsonLemmas
+pub mod ConfigTextLemmas
+pub mod TakenLemmas
+pub mod RankLemmas
+pub mod TouchStepLemmas
+pub mod ConfigLemmas
+pub mod LawLemmas

@@ -1,0 +1,10 @@
+pub mod ReportLines
+pub mod Columns
+pub mod Swapped
+pub mod Plain
+pub mod Meaning
+pub mod ImportExamples
+pub mod Examples
+pub mod Corners
+pub mod Drawn
+pub mod Numbers

@@ -1,0 +1,29 @@
+//! What is true of tables, imports and reports by their definitions alone. Nothing here runs.
+//!
+//! `vm_tally` tells a run in numbers, and `vm_sim` as a report. Here the report is a list of lines, each of its kind
+//! (`specs/ReportLines.antt`), and [`law_lines`] says that those numbers which the report has too are what adding up its lines gives
+//! (`specs/Columns.antt`). [`law_swapped`] says what the most pages in swap, seen at the ends of epochs, tells of their inside
+//! (`specs/Swapped.antt`), and [`law_names`] that the names in the records of guests need no quotes (`specs/Plain.antt`).
+//!
+//! `vm_import` makes a guest of a log of accesses to memory and writes its text, and `vm_config` reads texts of configurations. Here is
+//! which configuration the text means (`specs/Meaning.antt`), and [`law_imported`] says that it is read as that one.
+//! [`law_import_examples`] has two texts with their configurations, by computation (`specs/ImportExamples.antt`).
+//!
+//! [`law_examples`], [`law_corners`] and [`law_drawn`] have whole reports of runs, by computation of their definitions: each clause is a
+//! configuration and the text that its report is. The texts were told by a program that shares nothing with this repository, so they say
+//! that the definitions of a run mean what they should. [`law_numbers`] has the numbers of two runs, added up from these texts by hand.
+#![tactic(auto)]
+
+mod import_examples;
+mod imported;
+mod lines;
+mod names;
+mod reports;
+mod swapped;
+
+pub use import_examples::law_import_examples;
+pub use imported::law_imported;
+pub use lines::law_lines;
+pub use names::law_names;
+pub use reports::{law_corners, law_drawn, law_examples, law_numbers};
+pub use swapped::law_swapped;

@@ -1,5 +1,0 @@
-use Rattle.vm_sweep_charts.proofs.SweepLemmas.{places_on_axis}
-use Rattle.vm_sweep_charts.proofs.law.law_on_axis.Goals as goal
-
-pub returns : goal.returns
-returns c runs curves curve rise inside = places_on_axis runs curves curve rise inside

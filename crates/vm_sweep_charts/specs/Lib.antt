@@ -1,4 +1,0 @@
-pub mod SweptRuns
-pub mod CurveNames
-pub mod SweepDrawing
-pub mod OnAxis

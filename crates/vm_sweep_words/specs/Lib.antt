@@ -1,6 +1,0 @@
-pub mod CommandLine
-pub mod Keys
-pub mod Lists
-pub mod Refused
-pub mod Taken
-pub mod Examples

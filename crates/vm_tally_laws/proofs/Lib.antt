@@ -1,7 +1,0 @@
-pub mod SumLemmas
-pub mod TextLemmas
-pub mod LineLemmas
-pub mod ColumnLemmas
-pub mod PieceLemmas
-pub mod MostLemmas
-pub mod NameLemmas

@@ -1,4 +1,0 @@
-pub mod ReportLines
-pub mod Columns
-pub mod Swapped
-pub mod Plain

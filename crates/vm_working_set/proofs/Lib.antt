@@ -1,5 +1,0 @@
-mod FirstLemmas
-mod MarkLemmas
-mod RankLemmas
-mod SoundLemmas
-mod StepLemmas
