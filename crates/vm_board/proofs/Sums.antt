@@ -1,5 +1,5 @@
 -- What a change of one element, or of the length, does to a sum.
-use Rattle.std.proofs.Common.{◌≡◌, ◌+◌, ◌-◌, ◌<◌, ◌≤◌, ℕ, zero, suc, List, [], ◌∷◌, ◌++◌, length, get_or, set, max, refl, sym, ap, arith}
+use Rattle.std.proofs.Common.{◌≡◌, ◌+◌, ◌-◌, ◌<◌, ◌≤◌, ℕ, zero, suc, List, [], ◌∷◌, ◌++◌, length, get_or, set, max, refl, sym, ap, subst, arith}
 use Rattle.std.proofs.lemmas.Bool.{eq-eqb}
 use Rattle.std.specs.Prelude.{nat_eq}
 use mathlib.Core.Option.{some, some-injective, some-ne-none}
@@ -82,3 +82,10 @@ closer c n was now is above less = let old : past was ≤ n = past_all was n abo
 pub all_append : {X : Type 0} (P : X → Type 0) (xs ys : List X) → All P xs → All P ys → All P (xs ++ ys)
 all_append P [] ys h k = k
 all_append P (x ∷ xs) ys h k = all_cons P x (xs ++ ys) (h zero x (omega arith)) (all_append P xs ys (λ i d less. h (suc i) d (omega arith)) k)
+
+-- one more that has it, behind those that have it
+pub all_pushed : {X : Type 0} (P : X → Type 0) (xs ys : List X) (x : X) → ys ≡ xs ++ x ∷ [] → All P xs → P x → All P ys
+all_pushed P xs ys x is h here = subst (All P) (sym is) (all_append P xs (x ∷ []) h (all_cons P x [] here (λ k d less. absurd (omega arith))))
+
+pub all_none : {X : Type 0} (P : X → Type 0) (xs : List X) → xs ≡ [] → All P xs
+all_none P xs none = subst (All P) (sym none) (λ k d less. absurd (omega arith))

@@ -19,7 +19,6 @@ use std::thread::Threads;
 /// worker or one job there is no thread beside the caller's, and a thread that can't be started is done without. It may
 /// wait for its threads to end. Where a request for memory is refused, which is only where there are jobs, they come back,
 /// none run. Each number passes the gate once: a thread does so with the numbers that it drew, which rise.
-#[tactic(auto, using(crate::proofs::Gates::passed_none))]
 pub fn run_round<R: Threads + Sync, G: Gate + Sync, J: Work + Send>(
     rt: &R,
     alloc: Global,

@@ -61,7 +61,6 @@ fn fresh_name<'a>(object: &Value<'a>, earlier: &Domains) -> Result<&'a str, Conf
 }
 
 // One guest, after the earlier ones.
-#[tactic(auto, unfolding(crate::specs::Located::keys_of_guest))]
 fn guest<'a>(
     alloc: Global,
     limits: &Limits,

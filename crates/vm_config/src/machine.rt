@@ -18,7 +18,6 @@ pub(crate) const MAX_PAGE_RATE: u64 = 256;
 const DEFAULT_PAGE_RATE: u64 = 16;
 
 // The machine, with the numbers of the text.
-#[tactic(auto, unfolding(crate::specs::Located::machine_at))]
 pub(crate) fn machine(limits: &Limits, object: &Value<'_>) -> Result<MachineSpec, Fault>
     requires { AreLimits limits.now }
     ensures machine { result ≡ machine_at limits.now (view object.now) }

@@ -73,7 +73,6 @@ fn numbers_of(limits: &Limits, root: &Value<'_>) -> Result<Numbers, Fault>
 }
 
 // The keys of the root after the version, then each guest, and then each command.
-#[tactic(auto, unfolding(crate::specs::Located::keys_at))]
 fn keys(alloc: Global, limits: &Limits, root: Value<'_>) -> Result<Config, Fault>
     requires { AreLimits limits.now }
     ensures config { IsOrLacksMemory result (keys_at limits.now (view root.entry)) }

@@ -1,6 +1,6 @@
 -- One number, one shape, one piece more.
-use Rattle.std.proofs.Common.{◌≡◌, ℕ, zero, suc, ◌+◌, List, ◌∷◌, [], ◌++◌, Result, Ok, Err, OnOk, ap, ◌∙◌, sym, arith, append_assoc, refl}
-use Rattle.std.proofs.lemmas.List.{flat_map_more}
+use Rattle.std.proofs.Common.{◌≡◌, ℕ, zero, suc, ◌+◌, ◌<◌, ◌≤◌, List, ◌∷◌, [], ◌++◌, Result, Ok, Err, OnOk, ap, ◌∙◌, sym, arith, append_assoc, drop, get_or, length, refl}
+use Rattle.std.proofs.lemmas.List.{append-nil, drop_all, drop_more, flat_map_more}
 use Rattle.std.proofs.lemmas.List.Concat.{flat_map-append}
 use Rattle.std.specs.List.{flat_map, range_with_len}
 use Rattle.vm_drawing.specs.Shapes.{Shape, shape_text, shapes_text}
@@ -36,6 +36,27 @@ shapes_more f n start old new so_far more =
     one_more f n [] (flat_map f (range_with_len 0 n)) (flat_map f (range_with_len 0 n) ++ f n) refl refl in
     more ∙ ap (λ (l : List ℕ). l ++ shapes_text (f n)) so_far ∙ append_assoc start (shapes_text (flat_map f (range_with_len 0 n))) (shapes_text (f n))
     ∙ ap (λ (l : List ℕ). start ++ l) (sym (text-append (flat_map f (range_with_len 0 n)) (f n)) ∙ ap shapes_text shapes)
+
+-- ---- elements of which those that are left complete the text
+
+-- what is left, by its first element: any d that stands there
+pub left_from : {X : Type 0} (xs : List X) (i : ℕ) (d : X) → i < length xs → d ≡ get_or xs i d → drop i xs ≡ d ∷ drop (i + 1) xs
+left_from xs i d less is = drop_more xs i d less ∙ ap (λ x. x ∷ drop (i + 1) xs) (sym is)
+
+-- the text of one more element, and of what is left
+pub one_written : {X : Type 0} (f : List X → List Shape) (xs : List X) (i : ℕ) (d : X) (old new whole : List ℕ)
+    (piece rest : List Shape) → i < length xs → d ≡ get_or xs i d → f (d ∷ drop (i + 1) xs) ≡ piece ++ rest
+    → new ≡ old ++ shapes_text piece → old ++ shapes_text (f (drop i xs)) ≡ whole → new ++ shapes_text rest ≡ whole
+one_written f xs i d old new whole piece rest less is first more so_far =
+    ap (λ l. l ++ shapes_text rest) more ∙ append_assoc old (shapes_text piece) (shapes_text rest)
+    ∙ ap (λ l. old ++ l) (sym (text-append piece rest))
+    ∙ ap (λ l. old ++ shapes_text l) (sym (ap f (left_from xs i d less is) ∙ first)) ∙ so_far
+
+-- none is left
+pub all_written : {X : Type 0} (f : List X → List Shape) (xs : List X) (i : ℕ) (text whole : List ℕ) → length xs ≤ i → f [] ≡ []
+    → text ++ shapes_text (f (drop i xs)) ≡ whole → text ≡ whole
+all_written f xs i text whole past none so_far =
+    sym (append-nil text) ∙ ap (λ l. text ++ shapes_text l) (sym (ap f (drop_all i xs past) ∙ none)) ∙ so_far
 
 -- ---- one after another
 

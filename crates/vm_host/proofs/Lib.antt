@@ -5,6 +5,7 @@ pub mod BookLemmas
 pub mod PoolLemmas
 pub mod RefusedLemmas
 pub mod SetupLemmas
+pub mod PhaseLemmas
 pub mod StepLemmas
 pub mod BoundedLemmas
 pub mod FailLemmas

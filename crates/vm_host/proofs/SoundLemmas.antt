@@ -113,7 +113,7 @@ pub books-after_epoch : (w : World) → books_of (world_after_epoch w) ≡ books
 books-after_epoch w = books-epoch w.machine w.pool
 
 -- a host that waits for no boundary and hasn't failed is ready
-ready-else : (phase : Phase) → phase ≢ Waiting → phase ≢ Failed → phase ≡ Ready
+pub ready-else : (phase : Phase) → phase ≢ Waiting → phase ≢ Failed → phase ≡ Ready
 ready-else Waiting waits fails = absurd (waits refl)
 ready-else Ready waits fails = refl
 ready-else Failed waits fails = absurd (fails refl)

@@ -24,7 +24,7 @@ use std::alloc::Global;
 use vm_streams::{Sink, Source};
 
 // What is taken of a log.
-#[derive(Clone, Copy, Debug)]
+#[derive(Clone, Copy)]
 pub(crate) struct Taken {
     // How far.
     imported: Imported,

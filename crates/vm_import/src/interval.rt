@@ -17,7 +17,7 @@ use crate::settings::ImportSettings;
 use vm_streams::Source;
 
 // How the reading of an interval ended.
-#[derive(Clone, Copy, Debug)]
+#[derive(Clone, Copy)]
 pub(crate) enum IntervalEnd {
     // It has as many accesses as an interval has.
     Full,
@@ -46,7 +46,7 @@ impl IntervalEnd {
 }
 
 // The place of an interval among all.
-#[derive(Clone, Copy, Debug)]
+#[derive(Clone, Copy)]
 pub(crate) struct Interval {
     // Its number, from 1.
     pub(crate) number: u32,

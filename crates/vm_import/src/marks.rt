@@ -8,7 +8,7 @@ use crate::touch::RankedTouch;
 use std::alloc::AllocError;
 
 // How a page was touched in an interval.
-#[derive(Clone, Copy, Debug, PartialEq, Eq)]
+#[derive(Clone, Copy, PartialEq, Eq)]
 pub(crate) enum Mark {
     Untouched,
     Read,

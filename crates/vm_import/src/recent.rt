@@ -9,7 +9,7 @@ const PLACES: usize = 256;
 
 // The page that was touched last of those with the same remainder by 256, or NO_PAGE. Nearly all accesses are to these, and need no
 // look-up.
-#[derive(Clone, Copy, Debug)]
+#[derive(Clone, Copy)]
 pub(crate) struct RecentPages {
     pages: [u64; PLACES],
 }

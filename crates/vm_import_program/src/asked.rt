@@ -13,7 +13,7 @@ use vm_import::ImportSettings;
 use vm_words::Request;
 
 /// Why words are refused that have the form of the command line.
-#[derive(Clone, Copy, Debug, PartialEq, Eq)]
+#[derive(Clone, Copy, PartialEq, Eq)]
 pub(crate) enum WordsFault {
     /// The name is none of a guest.
     BadName,

@@ -9,7 +9,7 @@ use crate::numbers::number_of;
 use crate::ranges::Spaced;
 
 // The numbers of an item, and where its end and its step begin. A number is the range from itself to itself.
-#[derive(Clone, Copy, Debug)]
+#[derive(Clone, Copy)]
 struct Written {
     from: u64,
     to: u64,

@@ -1,5 +1,5 @@
 -- Grants to one guest that follow each other.
-use Rattle.std.proofs.Common.{◌≡◌, ◌≢◌, ℕ, zero, suc, ◌+◌, ◌-◌, ◌*◌, ◌<◌, ◌≤◌, ◌==◌, nat_lt, Bool, true, false, cond, List, [], ◌∷◌, ◌++◌, Option, Some, None, IsNone, IsSomeAnd, IfSome, All, length, max, replicate, take, slice_get, slice_set, slice_index, get_or, inl, inr, ⊎_elim, sym, refl, ap, ◌∙◌, subst, arith}
+use Rattle.std.proofs.Common.{◌≡◌, ◌≢◌, ℕ, zero, suc, ◌+◌, ◌-◌, ◌*◌, ◌<◌, ◌≤◌, ◌==◌, nat_lt, Bool, true, false, cond, List, [], ◌∷◌, ◌++◌, Option, Some, None, IsNone, IsSomeAnd, IfSome, All, length, max, min, replicate, take, slice_get, slice_set, slice_index, get_or, inl, inr, ⊎_elim, sym, refl, ap, ◌∙◌, subst, arith}
 use Rattle.std.specs.Option.{option_map, option_map_or}
 use Rattle.std.proofs.lemmas.Bool.{cases_lt, cases_eq, lt-ltb}
 use Rattle.std.proofs.lemmas.Bool.Decides.{eqb_tells}
@@ -87,6 +87,10 @@ row_in rows position old new at =
     let wide = length-set rows position new in
     slice_get-get_or (slice_set rows position new) position new (omega (arith, within, wide)) ∙ ap (λ (x : Row). Some x) (get_or-set_same rows position new new within)
 
+-- taken one after the other, or both at once
+taken_both : (n a b c : ℕ) → a + b ≡ c → (n - a) - b ≡ n - c
+taken_both n a b c e = omega (arith, e)
+
 pool_with-more : (pool : Pool) (position : ℕ) (row : Row) (k : ℕ) → slice_get pool.rows position ≡ Some row → granted (pool_with pool position row k) position ≡ pool_with pool position row (k + 1)
 pool_with-more pool position row k at =
     let new = grown_row k row in
@@ -94,7 +98,7 @@ pool_with-more pool position row k at =
     let there = row_in pool.rows position row new at in
     let cost : option_map_or frames_for (slice_get rows position) 0 ≡ frames_for new = ap (λ (o : Option Row). option_map_or frames_for o 0) there in
     let frames = frames-more k row in
-    let free : (pool.free - frames_for_all k row) - option_map_or frames_for (slice_get rows position) 0 ≡ pool.free - frames_for_all (k + 1) row = ap (λ (n : ℕ). (pool.free - frames_for_all k row) - n) cost ∙ omega (arith, frames) in
+    let free : (pool.free - frames_for_all k row) - option_map_or frames_for (slice_get rows position) 0 ≡ pool.free - frames_for_all (k + 1) row = ap (λ (n : ℕ). (pool.free - frames_for_all k row) - n) cost ∙ taken_both pool.free (frames_for_all k row) (frames_for new) (frames_for_all (k + 1) row) frames in
     let changed : change_at granted_row rows position ≡ slice_set rows position (granted_row new) = ap (λ (o : Option Row). option_map_or (λ row. slice_set rows position (granted_row row)) o rows) there in
     same_pool (granted (pool_with pool position row k) position) (pool_with pool position row (k + 1)) free
     (changed ∙ set-set pool.rows position new (granted_row new) ∙ ap (slice_set pool.rows position) (grown_row-more k row))
@@ -180,24 +184,64 @@ first_grown tax rows position row k at demand room beats =
           (get_or-set_other offers position other None None ne ∙ sym (get_or-set_other offers position other offer None ne) ∙ sym (ap (λ (xs : List (Option Ratio)). offer_at xs other) changed) ∙ e);
     }
 
+-- ---- what is affordable, in plain numbers
+
+each_at_most : (n a b c : ℕ) → n ≤ min (min a b) c → (n ≤ a) × (n ≤ b) × (n ≤ c)
+each_at_most n a b c l = (omega (arith, l), omega (arith, l), omega (arith, l))
+
+at_least_one : (a b c : ℕ) → 1 ≤ a → 1 ≤ b → 1 ≤ c → 1 ≤ min (min a b) c
+at_least_one a b c l m n = omega (arith, l, m, n)
+
+some_left : (a b : ℕ) → a < b → 1 ≤ b - a
+some_left a b l = omega (arith, l)
+
+some_more : (n a b : ℕ) → a < b → 1 ≤ n + (b - a)
+some_more n a b l = omega (arith, l)
+
+at_most_itself : (n : ℕ) → n ≤ n
+at_most_itself n = omega arith
+
+below_all : (k count most : ℕ) → k < count → count ≤ most → k < most
+below_all k count most l m = omega (arith, l, m)
+
+room_for : (k count cap target : ℕ) → k < count → count ≤ cap - target → target + k < cap
+room_for k count cap target l m = omega (arith, l, m)
+
+room_for_all : (count cap target : ℕ) → 1 ≤ count → count ≤ cap - target → target + count ≤ cap
+room_for_all count cap target some m = omega (arith, some, m)
+
+still_free : (k count held target free soft : ℕ) → k < count → count ≤ (held - target) + (free - soft) → soft < free → target ≤ held → soft < free - ((target + k) - held)
+still_free k count held target free soft l m more least = omega (arith, l, m, more, least)
+
+counts_to : (target last count most : ℕ) → target ≤ last → last + 1 ≤ target + most → count ≡ last - target + 1 → (1 ≤ count) × (count ≤ most)
+counts_to target last count most from to is = (omega (arith, is), omega (arith, from, to, is))
+
+below_last : (k target last count : ℕ) → target ≤ last → count ≡ last - target + 1 → k < count → target + k ≤ last
+below_last k target last count from is few = omega (arith, from, is, few)
+
+enough_free : (count held target free soft : ℕ) → count ≤ (held - target) + (free - soft) → target ≤ held → (target + count) - held ≤ free
+enough_free count held target free soft m least = omega (arith, m, least)
+
 -- a run in High: as many as can be had, as long as the guest comes before each of the others
 run_in_high : (t : Thresholds) (tax : Tax) (pool : Pool) (position : ℕ) (row : Row) (count : ℕ) → slice_get pool.rows position ≡ Some row → row.target ≤ row.held → t.soft < pool.free
     → 1 ≤ count → count ≤ affordable t pool.free row
     → ((k : ℕ) → k < count → (o : ℕ) (that : Ratio) → offer_at (others (wanting_ratios tax pool.rows) position) o ≡ Some that → IsAbove (ratio_with tax row (row.target + k)) position that o)
     → IsRun High t tax pool position count
-run_in_high t tax pool position row count at held free some few beats = record {
-  each_next = each_in_run High t tax pool position row count at held (λ k l. record {
-    greatest = first_grown tax pool.rows position row k at (omega (arith, few, l)) (omega (arith, few, l)) (beats k l);
-    may = omega (arith, few, l, free, held);
-  });
-  can = subst (λ (o : Option Row). IsSomeAnd o (CanGrowBy count pool.free)) (sym at) (record {
-    some = some;
-    demand = omega (arith, few);
-    room = omega (arith, few, some);
-    held = held;
-    enough = omega (arith, few, held);
-  });
-}
+run_in_high t tax pool position row count at held free some few beats =
+    let most = each_at_most count row.demand (row.cap - row.target) ((row.held - row.target) + (pool.free - t.soft)) few in
+    record {
+      each_next = each_in_run High t tax pool position row count at held (λ k l. record {
+        greatest = first_grown tax pool.rows position row k at (below_all k count row.demand l most.0) (room_for k count row.cap row.target l most.1) (beats k l);
+        may = still_free k count row.held row.target pool.free t.soft l most.2 free held;
+      });
+      can = subst (λ (o : Option Row). IsSomeAnd o (CanGrowBy count pool.free)) (sym at) (record {
+        some = some;
+        demand = most.0;
+        room = room_for_all count row.cap row.target some most.1;
+        held = held;
+        enough = enough_free count row.held row.target pool.free t.soft most.2 held;
+      });
+    }
 
 -- each guest holds its target
 pub held_in : (rows : List PlanRow) (k : ℕ) (r : PlanRow) → k < length rows → r ≡ get_or rows k r → All (λ row. row.target ≤ row.held) rows → r.target ≤ r.held
@@ -250,7 +294,7 @@ some_affordable t tax free rows position r l e next =
     let wants = wanting_row tax (rows_of rows) position next.greatest.ratio next.greatest.here in
     let demand = subst (λ (o : Option Row). IsSomeAnd o (λ row. 0 < row.demand)) at wants.0 in
     let room = subst (λ (o : Option Row). IsSomeAnd o (λ row. row.target < row.cap)) at wants.1 in
-    omega (arith, demand, room, next.may)
+    at_least_one r.demand (r.cap - r.target) ((r.held - r.target) + (free - t.soft)) demand (some_left r.target r.cap room) (some_more (r.held - r.target) t.soft free next.may)
 
 -- nobody else wants to grow
 pub run_alone : (t : Thresholds) (tax : Tax) (free : ℕ) (rows : List PlanRow) (position : ℕ) (r : PlanRow) → position < length rows → r ≡ get_or rows position r → All (λ row. row.target ≤ row.held) rows
@@ -258,7 +302,7 @@ pub run_alone : (t : Thresholds) (tax : Tax) (free : ℕ) (rows : List PlanRow) 
 run_alone t tax free rows position r l e held next none =
     let offers = others (wanting_ratios tax (rows_of rows)) position in
     run_in_high t tax (pool_of free rows) position (row_of r) (affordable t free (row_of r)) (row_at rows position r l e) (held_in rows position r l e held) next.may
-    (some_affordable t tax free rows position r l e next) (omega arith)
+    (some_affordable t tax free rows position r l e next) (at_most_itself (affordable t free (row_of r)))
     (λ k few o that there. absurd (none_at offers o that none there))
 
 -- the guest comes before the best of the others with so many pages, the last of which it gets by the last of these grants
@@ -272,11 +316,12 @@ run_before t tax free rows position other last count r s l m e f held next secon
     let there = other_stands wants position other second.ratio second.here in
     let price = wanting_price tax rows other s second.ratio m f there.1 in
     let shares = others-have_shares wants position (wanting-have_shares tax (rows_of rows) (plan_rows-have_shares rows)) in
+    let counts = counts_to r.target last count (affordable t free (row_of r)) from to is in
     run_in_high t tax (pool_of free rows) position (row_of r) count (row_at rows position r l e) (held_in rows position r l e held) next.may
-    (omega (arith, is)) (omega (arith, is, from, to))
+    counts.0 counts.1
     (λ k few. beats_each offers (ratio_with tax (row_of r) (r.target + k)) position other second (rw (adjusted_ratio-shares tax r.shares (r.target + k) r.active) r.some_shares) shares
     (subst (λ (b : Ratio). IsAbove (ratio_with tax (row_of r) (r.target + k)) position b other) price
-    (ahead_before tax (row_of r) position (r.target + k) last (ratio_with tax (row_of s) s.target) other (omega (arith, is, few, from)) ahead)))
+    (ahead_before tax (row_of r) position (r.target + k) last (ratio_with tax (row_of s) s.target) other (below_last k r.target last count from is few) ahead)))
 
 -- ---- what a run makes of the rows, and of their sums
 

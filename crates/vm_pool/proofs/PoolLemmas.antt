@@ -1,6 +1,6 @@
 -- A pool whose slots, machine or frames set aside change.
 use Rattle.std.proofs.Common.{◌≡◌, ℕ, zero, suc, ◌+◌, ◌-◌, ◌*◌, ◌^◌, ◌<◌, ◌≤◌, true, false, cond, List, [], ◌∷◌, length, map, set, get_or, refl, sym, ap, ◌∙◌, arith, subst}
-use Rattle.std.specs.Prelude.{All, Err, IfSome, IsSome, Ok, OnErr, Option, Result, Some, None, slice_get, slice_set}
+use Rattle.std.specs.Prelude.{All, Err, IfOk, IfSome, IsSome, Ok, OnErr, Option, Result, Some, None, slice_get, slice_set}
 use Rattle.std.proofs.lemmas.Nat.{mul-le}
 use Rattle.std.proofs.lemmas.Option.{slice_get-get_or}
 use Rattle.vm_guest.specs.Boundary.{without_spares}
@@ -522,6 +522,21 @@ pub room-here : (p : Inside) (v : PoolView) (i : ℕ) (was : Slot) (room : RoomV
 room-here p v i was room is there here fits =
     subst (λ c. IfSome c (λ config. room ≡ room_for config)) (config-slot p.slots.items i was there here)
     (subst (λ (w : PoolView). IsRoomAt w i room) (sym is) fits)
+
+-- the room that was taken is for that guest
+pub room-of : {E : Type 0} (p : Inside) (v : PoolView) (i : ℕ) (was : Slot) (room : Result RoomView E) → pool_of p ≡ v → i < length p.slots.items → was ≡ get_or p.slots.items i was
+    → IfOk room (λ r. r ≡ room_for (config_in was)) → IfOk room (IsRoomAt v i)
+room-of p v i was (Ok room) is there here fits =
+    subst (λ (w : PoolView). IsRoomAt w i room) is
+    (subst (λ c. IfSome c (λ config. room ≡ room_for config)) (sym (config-slot p.slots.items i was there here)) fits)
+room-of p v i was (Err e) is there here fits = tt
+
+-- what is asked for is within what is free
+pub fits-free : (p : Inside) (v : PoolView) (count : ℕ) → IsPool p → pool_of p ≡ v → count ≤ v.free → sets.len p.machine.out + count ≤ p.machine.total
+fits-free p v count good is few =
+    let free = ap (λ (w : PoolView). w.free) is in
+    let within = good.within in
+    omega (arith, few, free, within)
 
 pub stopped-here : (was : Slot) → IsSettled was → guest_in was ≡ None → IsStopped was
 stopped-here (Stopped config) settled none = tt

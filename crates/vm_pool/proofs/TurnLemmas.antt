@@ -244,3 +244,14 @@ coming-none start now all left i past coming =
 
 pub all-prepared : (slots : List Slot) → ((i : ℕ) → i < length slots → is_prepared (get_or slots i Away) ≡ true) → All (λ s. is_prepared s ≡ true) slots
 all-prepared slots each = λ i d there. ap is_prepared (get_or_default slots i d Away there) ∙ each i there
+
+-- where no guest runs, none runs its epoch
+pub stays : (slot : Slot) → ((s : GuestState) → slot ≡ Running s → ⊥) → slot ≡ slot_run slot
+stays (Stopped config) none = refl
+stays (Running s) none = absurd (none s refl)
+stays Away none = refl
+
+pub is-away : (slot : Slot) → is_away slot ≡ true → slot ≡ Away
+is-away (Stopped config) away = absurd (cc)
+is-away (Running s) away = absurd (cc)
+is-away Away away = refl

@@ -184,6 +184,17 @@ forgets_sets index page moved slot page_in moved_in = λ q.
     get_or-set (set index moved (Some slot)) page None None q (rw (length-set index moved (Some slot)) page_in)
     ∙ ap (cond (q == page) None) (get_or-set index moved (Some slot) None q moved_in)
 
+-- the index has no more to say once it is longer
+pub index_grown : (index new : List (Option ℕ)) (n : ℕ) → length new ≡ n → length index ≤ n → ((k : ℕ) (d : Option ℕ) → k < n → k < length index → get_or new k d ≡ get_or index k d) → ((k : ℕ) (d : Option ℕ) → length index ≤ k → k < n → get_or new k d ≡ None)
+    → (q : ℕ) → get_or new q None ≡ get_or index q None
+index_grown index new n is longer first rest q = elim (cases_lt q n) [
+  | inr past ↦ get_or_past new q None (omega arith) ∙ sym (get_or_past index q None (omega arith))
+  | inl near ↦ elim (cases_lt q (length index)) [
+    | inl within ↦ first q None near within
+    | inr beyond ↦ rest q None beyond near ∙ sym (get_or_past index q None beyond)
+  ]
+]
+
 -- ---- the slot of a page goes to another page
 
 -- the index after its two writes

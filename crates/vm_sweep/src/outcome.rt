@@ -10,7 +10,7 @@ use vm_tally::{
 };
 
 /// How much is told of a run.
-#[derive(Clone, Copy, Debug, PartialEq, Eq)]
+#[derive(Clone, Copy, PartialEq, Eq)]
 pub(crate) enum Detail {
     /// The run as a whole.
     Run,

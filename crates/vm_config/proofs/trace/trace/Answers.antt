@@ -1,10 +1,11 @@
-use Rattle.std.proofs.Common.{◌<◌, ◌∷◌, [], length, Err, ap, sym, ◌∙◌, inl, arith}
-use Rattle.std.proofs.lemmas.List.{length-append}
+use Rattle.std.proofs.Common.{◌≡◌, ◌<◌, ◌∷◌, [], map, drop, length, Err, refl, ap, sym, ◌∙◌, inl, inr, arith}
+use Rattle.std.proofs.lemmas.List.{drop_all, length-append}
 use Rattle.std.proofs.lemmas.List.Elements.{All-push}
 use Rattle.vm_json.specs.View.{items_seen}
 use Rattle.vm_trace.specs.Limits.{IsStep, IsWithin}
 use Rattle.vm_config.specs.declared.error.ConfigError.TheVariants.{Trace}
-use Rattle.vm_config.specs.Reading.{at_place}
+use Rattle.vm_config.specs.Keys.{text_of}
+use Rattle.vm_config.specs.Reading.{at_place, steps_from}
 use Rattle.vm_config.proofs.TraceLemmas.{steps_from_next, steps_from_fault}
 use Rattle.vm_config.proofs.trace.trace.Goals as goal
 
@@ -33,3 +34,21 @@ returns-in-Err-Fault-clause-steps c =
     let below : c.loop-place.place < length items = let test = c.loop-place-test.true in let all = c.len-place-end.ensures in omega arith in
     let wanted = sym invariant.completes ∙ steps_from_fault c.args.pages c.args.size c.args.guest items c.loop-place.place c.text_at.result.now c.loop-place.steps c.in-Err-Fault.fault below c.text_at.ensures invariant.count read in
     inl (ap (λ fault. Err (Trace c.args.guest c.loop-place.place fault)) same ∙ sym wanted)
+
+pub returns : goal.returns
+returns c =
+    let invariant = c.loop-place.invariant in
+    let items = items_seen c.args.texts in
+    let steps = c.loop-place.steps in
+    let end : c.loop-place.place ≡ length items =
+    let test = c.loop-place-test.false in let most = c.loop-place.auto.place-end in let all = c.len-place-end.ensures in omega arith in
+    let none : drop c.loop-place.place items ≡ [] = drop_all c.loop-place.place items (omega (arith, end)) in
+    record {
+      steps = inl (ap (λ left. steps_from c.args.pages c.args.size c.args.guest (map text_of left) steps) (sym none) ∙ invariant.completes);
+      within = invariant.within;
+      bounded = invariant.bounded;
+      count = let few = invariant.count in omega (arith, few, end);
+    }
+
+pub returns-in-Err-Memory : goal.returns-in-Err-Memory
+returns-in-Err-Memory c = record { steps = inr refl; within = tt; bounded = tt; count = tt }

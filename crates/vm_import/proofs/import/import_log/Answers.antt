@@ -2,10 +2,11 @@ use Rattle.std.proofs.Common.{◌≤◌, subst, arith}
 use Rattle.std.specs.Io.KnownBytes.{Appends}
 use Rattle.vm_import.specs.Reading.{Place, Stays, beginning, left, length_in_all}
 use Rattle.vm_streams.specs.Streams.{AppendsFront}
-use Rattle.vm_import.specs.Drafts.{DraftView}
+use Rattle.vm_import.specs.Drafts.{DraftView, with_text}
 use Rattle.vm_import.specs.Failing.{FailsToSkip, Skips}
 use Rattle.vm_import.specs.Imports.{Fails}
 use Rattle.vm_import.specs.Settings.{settings_of}
+use Rattle.vm_import.specs.Texts.{tail_of}
 use Rattle.vm_import.specs.declared.outcome.ImportError.TheVariants.{Memory, Write}
 use Rattle.vm_import.proofs.ImportLemmas.{fails-skipping, fails-taking, front-stopped, front-unfinished, front-unwritten, guest-written, untouched}
 use Rattle.vm_import.proofs.ReadLemmas.{passed-on}
@@ -51,7 +52,7 @@ returns-in_err-write-clause-failed g c =
     subst (λ (place : Place). Skips c.args.settings.now.skip (left place (g.R.Source.remaining c.args.reader.now)) (left c.skip.new.log (g.R.Source.remaining c.skip.new.reader))) c.in_ok-log.ensures c.in_ok-skip.ensures.skipped in
     passed-on c.from_residual-in_err-write.result Write (Fails (settings_of c.args.settings.now) (g.R.Source.remaining c.args.reader.now) (g.W.Sink.contents c.args.writer.now) (g.W.Sink.contents c.write.new.writer) (g.R.Source.has_failed c.take_intervals.new.reader) (g.W.Sink.has_failed c.write.new.writer)) (
       front-unwritten (settings_of c.args.settings.now) (g.R.Source.remaining c.args.reader.now) (left c.skip.new.log (g.R.Source.remaining c.skip.new.reader)) (g.W.Sink.contents c.args.writer.now) (g.W.Sink.contents c.take_intervals.new.writer) c.in_ok-taken.taken c.take_intervals.new.progress.draft skips c.in_ok-taken.ensures.taken (g.W.Sink.contents c.write.new.writer)
-          (subst (λ (d : DraftView). AppendsFront (g.W.Sink.contents c.take_intervals.new.writer) (g.W.Sink.contents c.write.new.writer) d.text) c.in_ok-finish.ensures c.in_err-write.ensures.front),
+          (subst (λ (d : DraftView). AppendsFront (g.W.Sink.contents c.take_intervals.new.writer) (g.W.Sink.contents c.write.new.writer) d.text) {y = with_text c.take_intervals.new.progress.draft (tail_of (settings_of c.args.settings.now) c.in_ok-taken.taken.size c.take_intervals.new.progress.draft.steps)} c.in_ok-finish.ensures c.in_err-write.ensures.front),
       c.in_err-write.ensures.failure,
     )
     c.from_residual-in_err-write.ensures.1
@@ -61,4 +62,4 @@ returns-clause-guest g c =
     let skips : Skips c.args.settings.now.skip (left beginning (g.R.Source.remaining c.args.reader.now)) (left c.skip.new.log (g.R.Source.remaining c.skip.new.reader)) =
     subst (λ (place : Place). Skips c.args.settings.now.skip (left place (g.R.Source.remaining c.args.reader.now)) (left c.skip.new.log (g.R.Source.remaining c.skip.new.reader))) c.in_ok-log.ensures c.in_ok-skip.ensures.skipped in
     let some : 1 ≤ c.in_ok-taken.taken.size = omega arith in
-    guest-written (settings_of c.args.settings.now) (g.R.Source.remaining c.args.reader.now) (left c.skip.new.log (g.R.Source.remaining c.skip.new.reader)) (g.W.Sink.contents c.args.writer.now) (g.W.Sink.contents c.take_intervals.new.writer) c.in_ok-taken.taken c.take_intervals.new.progress.draft skips c.in_ok-taken.ensures.taken (g.W.Sink.contents c.write.new.writer) some (subst (λ (d : DraftView). Appends (g.W.Sink.contents c.take_intervals.new.writer) (g.W.Sink.contents c.write.new.writer) d.text) c.in_ok-finish.ensures c.in_ok-write.ensures.written)
+    guest-written (settings_of c.args.settings.now) (g.R.Source.remaining c.args.reader.now) (left c.skip.new.log (g.R.Source.remaining c.skip.new.reader)) (g.W.Sink.contents c.args.writer.now) (g.W.Sink.contents c.take_intervals.new.writer) c.in_ok-taken.taken c.take_intervals.new.progress.draft skips c.in_ok-taken.ensures.taken (g.W.Sink.contents c.write.new.writer) some (subst (λ (d : DraftView). Appends (g.W.Sink.contents c.take_intervals.new.writer) (g.W.Sink.contents c.write.new.writer) d.text) {y = with_text c.take_intervals.new.progress.draft (tail_of (settings_of c.args.settings.now) c.in_ok-taken.taken.size c.take_intervals.new.progress.draft.steps)} c.in_ok-finish.ensures c.in_ok-write.ensures.written)

@@ -1,23 +1,130 @@
-use Rattle.std.proofs.Common.{◌≡◌, ℕ, ◌≤◌, ◌++◌, List, All, IfSome, IsSomeAnd, replicate, slice_get, sym, ap, ◌∙◌, subst, arith}
+use Rattle.std.proofs.Common.{◌≡◌, ℕ, [], ◌+◌, ◌<◌, ◌≤◌, ◌++◌, List, Option, Result, Ok, Err, All, IfErr, IfSome, IsSomeAnd, length, replicate, slice_get, ⊎_elim, sym, ap, ◌∙◌, subst, arith}
 use Rattle.std.proofs.lemmas.Bool.{false≢true}
 use Rattle.std.proofs.lemmas.Grind.{fold-append}
-use Rattle.std.proofs.lemmas.List.{length-append, length-replicate, with_items_is}
+use Rattle.std.proofs.lemmas.List.{length-append, length-map, length-replicate, with_items_is}
+use Rattle.std.proofs.lemmas.Option.{slice_get_cases}
+use Rattle.std.proofs.lemmas.Result.{IfOk-from_err}
 use Rattle.vm_tax.specs.Ratio.{hundredths}
 use Rattle.vm_plan.specs.declared.row.PlanRow.{PlanRow}
-use Rattle.vm_plan.specs.Row.{change_at}
+use Rattle.vm_plan.specs.Row.{Row, change_at}
 use Rattle.vm_plan.specs.PlanRow.{row_of, rows_of, pool_of}
 use Rattle.vm_plan.specs.Grants.{Pool, CanGrow, IsNextGrant, IsGrantList, granted, pool_after, total_demand}
 use Rattle.vm_plan.specs.Runs.{grown_row, frames_for_all, CanGrowBy, IsRun}
+use Rattle.vm_plan.specs.Track.{IsTracked, AreRivals}
+use Rattle.vm_plan.specs.declared.tracking.Kind.TheVariants.{Wanting}
 use Rattle.vm_plan.proofs.ListLemmas.{grant_list-only}
+use Rattle.vm_plan.proofs.MoveLemmas.{empty-length, none_in}
 use Rattle.vm_plan.proofs.Places.{grants_within, grants_apply, no_grants}
 use Rattle.vm_plan.proofs.GrantRunLemmas.{demand-run, each-run, pool-run, run_cost, run_demand, run_room, run_some, target-run}
 use Rattle.vm_plan.proofs.RowLemmas.{plan_rows-have_shares}
 use Rattle.vm_plan.proofs.SumLemmas.{few_targets, total_target}
 use Rattle.vm_plan.proofs.grants.grant.Goals as goal
 
+-- ---- what several goals want
+
+any_err : {T E : Type 0} (r : Result T E) (P : Type 0) → P → IfErr r (λ _. P)
+any_err (Ok x) P h = tt
+any_err (Err e) P h = h
+
+none_more : (moves : List ℕ) (n m : ℕ) → moves ≡ [] → m ≡ n → m ≡ n + length moves
+none_more moves n m e same = let empty = empty-length moves e in omega (arith, empty, same)
+
+grow_within : (rows : List PlanRow) (k count free : ℕ) → IsSomeAnd (slice_get (rows_of rows) k) (CanGrowBy count free) → k < length rows
+grow_within rows k count free can =
+    ⊎_elim
+    (λ here. subst (λ (n : ℕ). k < n) (length-map rows row_of) here.1)
+    (λ past. absurd (subst (λ (o : Option Row). IsSomeAnd o (CanGrowBy count free)) past.1 can))
+    (slice_get_cases (rows_of rows) k).1
+
+-- ---- before the loop
+
+pub returns-in_err-after : goal.returns-in_err-after
+returns-in_err-after c =
+    let failed = c.from_residual.ensures.0 in
+    let can : CanGrow c.args.state c.args.thresholds.now (pool_of c.args.free c.args.rows.now) = c.can_grow.ensures.0 c.if-not-can_grow.false in
+    record {
+      list = IfOk-from_err _ _ failed;
+      exact = IfOk-from_err _ _ failed;
+      within = IfOk-from_err _ _ failed;
+      applies = IfOk-from_err _ _ failed;
+      memory = any_err _ _ can;
+    }
+
+pub returns-in_err-rivals : goal.returns-in_err-rivals
+returns-in_err-rivals c =
+    let failed = c.from_residual-in_err-rivals.ensures.0 in
+    let can : CanGrow c.args.state c.args.thresholds.now (pool_of c.args.free c.args.rows.now) = c.can_grow.ensures.0 c.if-not-can_grow.false in
+    record {
+      list = IfOk-from_err _ _ failed;
+      exact = IfOk-from_err _ _ failed;
+      within = IfOk-from_err _ _ failed;
+      applies = IfOk-from_err _ _ failed;
+      memory = any_err _ _ can;
+    }
+
+pub returns-in_err-wanting : goal.returns-in_err-wanting
+returns-in_err-wanting c =
+    let failed = c.from_residual-in_err-wanting.ensures.0 in
+    let can : CanGrow c.args.state c.args.thresholds.now (pool_of c.args.free c.args.rows.now) = c.can_grow.ensures.0 c.if-not-can_grow.false in
+    record {
+      list = IfOk-from_err _ _ failed;
+      exact = IfOk-from_err _ _ failed;
+      within = IfOk-from_err _ _ failed;
+      applies = IfOk-from_err _ _ failed;
+      memory = any_err _ _ can;
+    }
+
+pub loop-position-init : goal.loop-position-init
+loop-position-init c =
+    let rows = c.args.rows.now in
+    let items : c.in_ok-after.after.items ≡ rows = c.in_ok-after.ensures.items in
+    let start = pool_of c.args.free rows in
+    let copied : rows_of c.in_ok-after.after.items ≡ rows_of rows = ap rows_of items in
+    record {
+      pool = ap (λ (xs : List PlanRow). pool_of c.args.free xs) items ∙ ap (λ (xs : List ℕ). pool_after start xs) (sym c.new-plan.ensures);
+      each_next = λ i l. absurd (none_in c.new-plan.result i c.new-plan.ensures l);
+      rivals = subst (λ (xs : List Row). AreRivals c.args.tax c.in_ok-rivals.rivals xs) (sym copied) c.in_ok-rivals.ensures.tracked;
+      for_state = c.in_ok-rivals.ensures.for_state;
+      wanting = subst (λ (xs : List Row). IsTracked Wanting c.args.tax c.in_ok-wanting.wanting xs) (sym copied) c.in_ok-wanting.ensures.tracked;
+      held = subst (λ (xs : List PlanRow). All (λ row. row.target ≤ row.held) xs) (sym items) c.requires.held;
+      few = ap (λ (xs : List PlanRow). length xs) items;
+      targets = none_more c.new-plan.result (total_target (rows_of rows)) _ c.new-plan.ensures (ap total_target copied);
+    }
+
+-- ---- a turn
+
+pub next_grant-requires-clause-rivals : goal.next_grant-requires-clause-rivals
+next_grant-requires-clause-rivals c =
+    subst (λ (xs : List PlanRow). AreRivals c.args.tax c.loop-position.rivals (rows_of xs)) (sym c.deref.ensures.value) c.loop-position.invariant.rivals
+
+pub next_grant-requires-clause-wanting : goal.next_grant-requires-clause-wanting
+next_grant-requires-clause-wanting c =
+    subst (λ (xs : List PlanRow). IsTracked Wanting c.args.tax c.loop-position.wanting (rows_of xs)) (sym c.deref.ensures.value) c.loop-position.invariant.wanting
+
+pub run_length-count-requires-clause-next : goal.run_length-count-requires-clause-next
+run_length-count-requires-clause-next c =
+    subst (λ (xs : List PlanRow). IsNextGrant c.args.state c.args.thresholds.now (hundredths c.args.tax) (pool_of c.loop-position.left xs) c.in-Some.position) (c.deref.ensures.value ∙ sym c.deref-in-Some.ensures.value) c.in-Some.ensures.some
+
+pub run_length-count-requires-clause-wanting : goal.run_length-count-requires-clause-wanting
+run_length-count-requires-clause-wanting c =
+    subst (λ (xs : List PlanRow). IsTracked Wanting c.args.tax c.loop-position.wanting (rows_of xs)) (sym c.deref-in-Some.ensures.value) c.loop-position.invariant.wanting
+
 -- the run that was found, in the rows as the loop has them
 pub run_length-count-requires-clause-held : goal.run_length-count-requires-clause-held
 run_length-count-requires-clause-held c = subst (λ (xs : List PlanRow). All (λ row. row.target ≤ row.held) xs) (sym c.deref-in-Some.ensures.value) c.loop-position.invariant.held
+
+pub give_pages-left-requires-clause-within : goal.give_pages-left-requires-clause-within
+give_pages-left-requires-clause-within c =
+    let can = subst (λ (xs : List PlanRow). IsSomeAnd (slice_get (rows_of xs) c.in-Some.position) (CanGrowBy c.run_length-count.result c.loop-position.left)) (c.deref-in-Some.ensures.value ∙ sym c.deref_mut.ensures.value) c.run_length-count.ensures.run.can in
+    grow_within c.deref_mut.result.now c.in-Some.position c.run_length-count.result c.loop-position.left can
+
+pub give_pages-left-requires-clause-rivals : goal.give_pages-left-requires-clause-rivals
+give_pages-left-requires-clause-rivals c =
+    subst (λ (xs : List PlanRow). AreRivals c.args.tax c.loop-position.rivals (rows_of xs)) (sym c.deref_mut.ensures.value) c.loop-position.invariant.rivals
+
+pub give_pages-left-requires-clause-wanting : goal.give_pages-left-requires-clause-wanting
+give_pages-left-requires-clause-wanting c =
+    subst (λ (xs : List PlanRow). IsTracked Wanting c.args.tax c.run_length-count.new.wanting (rows_of xs)) (c.deref-in-Some.ensures.value ∙ sym c.deref_mut.ensures.value) c.run_length-count.ensures.wanting
 
 pub give_pages-left-requires-clause-demand : goal.give_pages-left-requires-clause-demand
 give_pages-left-requires-clause-demand c =
@@ -36,6 +143,18 @@ pub overflow_sub-left : goal.overflow_sub-left
 overflow_sub-left c =
     let can = subst (λ (xs : List PlanRow). IsSomeAnd (slice_get (rows_of xs) c.in-Some.position) (CanGrowBy c.run_length-count.result c.loop-position.left)) (c.deref-in-Some.ensures.value ∙ sym c.deref_mut.ensures.value) c.run_length-count.ensures.run.can in
     run_cost c.deref_mut.result.now c.in-Some.position c.give_pages-left.result c.run_length-count.result c.loop-position.left can c.give_pages-left.ensures.frames
+
+pub returns-in_err-push : goal.returns-in_err-push
+returns-in_err-push c =
+    let failed = c.from_residual-in_err-push.ensures.0 in
+    let can : CanGrow c.args.state c.args.thresholds.now (pool_of c.args.free c.args.rows.now) = c.can_grow.ensures.0 c.if-not-can_grow.false in
+    record {
+      list = IfOk-from_err _ _ failed;
+      exact = IfOk-from_err _ _ failed;
+      within = IfOk-from_err _ _ failed;
+      applies = IfOk-from_err _ _ failed;
+      memory = any_err _ _ can;
+    }
 
 pub loop-position-smaller : goal.loop-position-smaller
 loop-position-smaller c =
@@ -104,6 +223,12 @@ pub returns-then-not-can_grow-clause-exact : goal.returns-then-not-can_grow-clau
 returns-then-not-can_grow-clause-exact c =
     let rows = c.args.rows.now in
     grant_list-only c.args.state c.args.thresholds.now (hundredths c.args.tax) (pool_of c.args.free rows) c.new.result (plan_rows-have_shares rows) (returns-then-not-can_grow-clause-list c)
+
+pub returns-then-not-can_grow-clause-within : goal.returns-then-not-can_grow-clause-within
+returns-then-not-can_grow-clause-within c k d l = absurd (none_in c.new.result k c.new.ensures l)
+
+pub returns-then-not-can_grow-clause-applies : goal.returns-then-not-can_grow-clause-applies
+returns-then-not-can_grow-clause-applies c i l = absurd (none_in c.new.result i c.new.ensures l)
 
 -- ---- some guest can
 

@@ -1,5 +1,5 @@
-use Rattle.std.proofs.Common.{◌≡◌, ℕ, ◌∙◌, refl, List, Option, Some, None, IsNone, IfNone, IfSome, All, sym, ap, subst, slice_set}
-use Rattle.std.proofs.lemmas.List.{map-set}
+use Rattle.std.proofs.Common.{◌≡◌, ℕ, ◌<◌, ◌∙◌, refl, length, List, Option, Some, None, IsNone, IfNone, IfSome, All, sym, ap, subst, slice_set}
+use Rattle.std.proofs.lemmas.List.{length-set, map-set}
 use Rattle.std.specs.Option.{option_map}
 use Rattle.vm_tax.specs.declared.price.Price.{Price}
 use Rattle.vm_tax.specs.Ratio.{Ratio, hundredths}
@@ -11,7 +11,7 @@ use Rattle.vm_plan.specs.declared.tracking.Kind.TheVariants.{Revocable}
 use Rattle.vm_plan.specs.PlanRow.{rows_of}
 use Rattle.vm_plan.specs.Row.{others, revocable_ratios}
 use Rattle.vm_plan.specs.Track.{IsTracked}
-use Rattle.vm_plan.proofs.TrackLemmas.{tracked-back, tracked-one_tax}
+use Rattle.vm_plan.proofs.TrackLemmas.{blank-one_tax, tracked-back, tracked-one_tax, tracked-within}
 use Rattle.vm_plan.proofs.revocation_runs.rival_of.Goals as goal
 
 -- the prices without that of one guest are those of the others
@@ -21,6 +21,17 @@ blank_ratios tax prices new offers k is set = ap ratios_of set ∙ map-set (opti
 if_none : {P : Type 0} (o : Option ℕ) → (IsNone o → P) → IfNone o P
 if_none None h = h refl
 if_none (Some n) h = tt
+
+pub set-requires-clause-within : goal.set-requires-clause-within
+set-requires-clause-within c = tracked-within c.args.rows.now c.args.position c.requires.tracked c.requires.within
+
+pub set-requires-clause-one_tax : goal.set-requires-clause-one_tax
+set-requires-clause-one_tax c = blank-one_tax c.args.position c.requires.tracked
+
+pub set-requires-2-clause-within : goal.set-requires-2-clause-within
+set-requires-2-clause-within c =
+    let long = ap length c.set.ensures ∙ length-set c.args.winners.now c.args.position None in
+    subst (λ (n : ℕ). c.args.position < n) (sym long) (tracked-within c.args.rows.now c.args.position c.requires.tracked c.requires.within)
 
 pub set-requires-2-clause-one_tax : goal.set-requires-2-clause-one_tax
 set-requires-2-clause-one_tax c =

@@ -1,5 +1,7 @@
-use Rattle.std.proofs.Common.{◌≡◌, ◌∙◌, ◌+◌, List, ℕ, ap, arith, refl, subst, sym}
+use Rattle.std.proofs.Common.{◌≡◌, ◌∙◌, ◌+◌, ◌≤◌, All, Result, Ok, Err, IfErr, List, ℕ, ap, arith, refl, subst, sym}
 use Rattle.std.proofs.lemmas.List.{take_at}
+use Rattle.std.proofs.lemmas.Result.{IfOk-from_err}
+use Rattle.std.specs.declared.alloc.AllocError.{AllocError}
 use Rattle.vm_plan.specs.declared.row.PlanRow.{PlanRow}
 use Rattle.vm_plan.specs.Grants.{Pool, grant_list, IsGrantList}
 use Rattle.vm_plan.specs.PlanRow.{pool_of, rows_of as plan_rows}
@@ -18,6 +20,16 @@ use Rattle.vm_reclaim.proofs.PlanningLemmas.{blocked-are, given-within, held-fal
 use Rattle.vm_reclaim.proofs.RestLemmas.{can-do-nothing, grants-at-rest, plan-at-rest}
 use Rattle.vm_reclaim.proofs.RowLemmas.{can_grant}
 use Rattle.vm_reclaim.proofs.boundary.plan_boundary.Goals as goal
+
+no_more : (told counts fallen all : ℕ) → told ≡ counts → counts ≤ fallen → fallen ≡ all → told ≤ all
+no_more told counts fallen all sum given held = omega arith
+
+few_rows : (rows len items guests : ℕ) → rows ≡ len → len ≡ items → items ≡ guests → guests ≤ 256 → rows ≤ 256
+few_rows rows len items guests same long all few = omega arith
+
+some_guest : (r : Result BoundaryPlan AllocError) {P : Type 0} → P → IfErr r (λ _. P)
+some_guest (Ok plan) some = tt
+some_guest (Err e) some = some
 
 -- ---- nothing is to be done
 
@@ -44,19 +56,38 @@ returns-then-is_at_rest-clause-granted_fairly c =
 
 -- ---- the rest
 
+pub plan_falls-requires-clause-rows : goal.plan_falls-requires-clause-rows
+plan_falls-requires-clause-rows c = ap plan_rows c.deref_mut.ensures.value ∙ c.in_ok-rows.ensures.rows
+
+pub plan_falls-requires-clause-held : goal.plan_falls-requires-clause-held
+plan_falls-requires-clause-held c = subst (All (λ (row : PlanRow). row.target ≤ row.held)) (sym c.deref_mut.ensures.value) c.in_ok-rows.ensures.held
+
+pub page_rows-requires-clause-few : goal.page_rows-requires-clause-few
+page_rows-requires-clause-few c = few_rows _ _ _ _ c.deref_mut-2.ensures.len c.in_ok-rows.rows.ok.0 c.in_ok-rows.ensures.length c.requires
+
+pub page_rows-requires-clause-held : goal.page_rows-requires-clause-held
+page_rows-requires-clause-held c =
+    let first = take_at c.plan_falls.new.rows _ c.in_ok-rows.rows.len (c.plan_falls.auto.rows ∙ c.deref_mut.ensures.len) in
+    subst (All (λ (row : PlanRow). row.target ≤ row.held)) (sym (c.deref_mut-2.ensures.value ∙ first)) c.in_ok-revoked.ensures.held
+
+pub grant-requires-clause-held : goal.grant-requires-clause-held
+grant-requires-clause-held c =
+    let first = take_at c.page_rows.new.rows _ c.in_ok-rows.rows.len (c.page_rows.auto.rows ∙ c.deref_mut-2.ensures.len) in
+    subst (All (λ (row : PlanRow). row.target ≤ row.held)) (sym (c.deref.ensures.value ∙ first)) c.in_ok-paged.ensures.held
+
 pub free_after-requires : goal.free_after-requires
 free_after-requires c =
     let pool = c.args.pool.now in
     let state = c.args.state in
     let policy = policy_in c.args.numbers.now in
     let fallen = pool_revoked policy state pool in
-    let whole = take_at c.plan_falls.new.rows _ c.in_ok-rows.rows.len (omega arith) in
+    let whole = take_at c.plan_falls.new.rows _ c.in_ok-rows.rows.len (c.plan_falls.auto.rows ∙ c.deref_mut.ensures.len) in
     let rows : plan_rows c.deref_mut-2.result.now ≡ rows_of fallen.guests = ap plan_rows (c.deref_mut-2.ensures.value ∙ whole) ∙ c.in_ok-revoked.ensures.rows in
     let told = c.as_slice.ensures ∙ c.in_ok-paged.ensures.list in
     let sum = (paging-told state policy.page_rate c.as_slice.result.now (plan_rows c.deref_mut-2.result.now) fallen.guests rows told).1 in
     let given = given-within state policy.page_rate fallen.guests in
     let held = held-fallen pool (revocations_in policy state pool) in
-    omega (arith, sum, given, held)
+    no_more _ _ _ _ sum given held
 
 pub returns-clause-plan : goal.returns-clause-plan
 returns-clause-plan c =
@@ -64,7 +95,7 @@ returns-clause-plan c =
     let state = c.args.state in
     let policy = policy_in c.args.numbers.now in
     let fallen = (pool_revoked policy state pool).guests in
-    let first = take_at c.plan_falls.new.rows _ c.in_ok-rows.rows.len (omega arith) in
+    let first = take_at c.plan_falls.new.rows _ c.in_ok-rows.rows.len (c.plan_falls.auto.rows ∙ c.deref_mut.ensures.len) in
     let rows = ap plan_rows (c.deref_mut-2.ensures.value ∙ first) ∙ c.in_ok-revoked.ensures.rows in
     let told = c.in_ok-paged.ensures.list in
     let free = c.free_after.ensures ∙ ap (λ (told : List Paged). pool.free + frames_in told) c.as_slice.ensures in
@@ -72,10 +103,10 @@ returns-clause-plan c =
     told c.in_ok-paged.ensures.rows free in
     let paged = (paging-told state policy.page_rate c.in_ok-paged.paged (plan_rows c.deref_mut-2.result.now) fallen rows told).0 in
     let granted = c.in_ok-granted.ensures.exact
-    ∙ (ap (λ (rows : List PlanRow). grant_list state policy.thresholds policy.tax (pool_of c.free_after.result rows)) (c.deref.ensures.value ∙ take_at c.page_rows.new.rows _ c.in_ok-rows.rows.len (omega arith))
+    ∙ (ap (λ (rows : List PlanRow). grant_list state policy.thresholds policy.tax (pool_of c.free_after.result rows)) (c.deref.ensures.value ∙ take_at c.page_rows.new.rows _ c.in_ok-rows.rows.len (c.page_rows.auto.rows ∙ c.deref_mut-2.ensures.len))
     ∙ ap (grant_list state policy.thresholds policy.tax) planned) in
     let blocked = c.in_ok-blocked.ensures.list
-    ∙ (ap (λ (rows : List PlanRow). waiting_from 0 (blocks_in state) (plan_rows rows)) (c.deref-2.ensures.value ∙ take_at c.page_rows.new.rows _ c.in_ok-rows.rows.len (omega arith))
+    ∙ (ap (λ (rows : List PlanRow). waiting_from 0 (blocks_in state) (plan_rows rows)) (c.deref-2.ensures.value ∙ take_at c.page_rows.new.rows _ c.in_ok-rows.rows.len (c.page_rows.auto.rows ∙ c.deref_mut-2.ensures.len))
     ∙ (ap (λ (pool : Pool). waiting_from 0 (blocks_in state) pool.rows) planned ∙ blocked-are policy state (pool_reclaimed policy state pool))) in
     λ i. record { revoked = c.in_ok-revoked.ensures.plan i; paged = paged i; granted = granted i; blocked = blocked i }
 
@@ -84,13 +115,13 @@ returns-clause-granted_fairly c =
     let pool = c.args.pool.now in
     let state = c.args.state in
     let policy = policy_in c.args.numbers.now in
-    let first = take_at c.plan_falls.new.rows _ c.in_ok-rows.rows.len (omega arith) in
+    let first = take_at c.plan_falls.new.rows _ c.in_ok-rows.rows.len (c.plan_falls.auto.rows ∙ c.deref_mut.ensures.len) in
     let rows = ap plan_rows (c.deref_mut-2.ensures.value ∙ first) ∙ c.in_ok-revoked.ensures.rows in
     let free = c.free_after.ensures ∙ ap (λ (told : List Paged). pool.free + frames_in told) c.as_slice.ensures in
     let planned = pool-planned policy state pool c.free_after.result c.in_ok-paged.paged (plan_rows c.deref_mut-2.result.now) (plan_rows c.page_rows.new.rows) rows
     c.in_ok-paged.ensures.list c.in_ok-paged.ensures.rows free in
     subst (λ (p : Pool). IsGrantList state policy.thresholds policy.tax p c.in_ok-granted.granted)
-    (ap (λ (rows : List PlanRow). pool_of c.free_after.result rows) (c.deref.ensures.value ∙ take_at c.page_rows.new.rows _ c.in_ok-rows.rows.len (omega arith)) ∙ planned) c.in_ok-granted.ensures.list
+    (ap (λ (rows : List PlanRow). pool_of c.free_after.result rows) (c.deref.ensures.value ∙ take_at c.page_rows.new.rows _ c.in_ok-rows.rows.len (c.page_rows.auto.rows ∙ c.deref_mut-2.ensures.len)) ∙ planned) c.in_ok-granted.ensures.list
 
 pub returns-clause-can : goal.returns-clause-can
 returns-clause-can c =
@@ -109,3 +140,101 @@ returns-clause-can c =
 pub returns-clause-done : goal.returns-clause-done
 returns-clause-done c =
     ap (λ (plan : BoundaryPlan). carried_out plan c.args.pool.now) (returns-clause-plan c) ∙ settled-is (policy_in c.args.numbers.now) c.args.state c.args.pool.now
+
+-- ---- where memory is wanting, nothing is said of a plan
+
+pub returns-in_err-rows-clause-plan : goal.returns-in_err-rows-clause-plan
+returns-in_err-rows-clause-plan c = IfOk-from_err c.from_residual.result _ c.from_residual.ensures.0
+
+pub returns-in_err-rows-clause-can : goal.returns-in_err-rows-clause-can
+returns-in_err-rows-clause-can c = IfOk-from_err c.from_residual.result _ c.from_residual.ensures.0
+
+pub returns-in_err-rows-clause-done : goal.returns-in_err-rows-clause-done
+returns-in_err-rows-clause-done c = IfOk-from_err c.from_residual.result _ c.from_residual.ensures.0
+
+pub returns-in_err-rows-clause-taken_fairly : goal.returns-in_err-rows-clause-taken_fairly
+returns-in_err-rows-clause-taken_fairly c = IfOk-from_err c.from_residual.result _ c.from_residual.ensures.0
+
+pub returns-in_err-rows-clause-enough : goal.returns-in_err-rows-clause-enough
+returns-in_err-rows-clause-enough c = IfOk-from_err c.from_residual.result _ c.from_residual.ensures.0
+
+pub returns-in_err-rows-clause-granted_fairly : goal.returns-in_err-rows-clause-granted_fairly
+returns-in_err-rows-clause-granted_fairly c = IfOk-from_err c.from_residual.result _ c.from_residual.ensures.0
+
+pub returns-in_err-revoked-clause-plan : goal.returns-in_err-revoked-clause-plan
+returns-in_err-revoked-clause-plan c = IfOk-from_err c.from_residual-in_err-revoked.result _ c.from_residual-in_err-revoked.ensures.0
+
+pub returns-in_err-revoked-clause-can : goal.returns-in_err-revoked-clause-can
+returns-in_err-revoked-clause-can c = IfOk-from_err c.from_residual-in_err-revoked.result _ c.from_residual-in_err-revoked.ensures.0
+
+pub returns-in_err-revoked-clause-done : goal.returns-in_err-revoked-clause-done
+returns-in_err-revoked-clause-done c = IfOk-from_err c.from_residual-in_err-revoked.result _ c.from_residual-in_err-revoked.ensures.0
+
+pub returns-in_err-revoked-clause-taken_fairly : goal.returns-in_err-revoked-clause-taken_fairly
+returns-in_err-revoked-clause-taken_fairly c = IfOk-from_err c.from_residual-in_err-revoked.result _ c.from_residual-in_err-revoked.ensures.0
+
+pub returns-in_err-revoked-clause-enough : goal.returns-in_err-revoked-clause-enough
+returns-in_err-revoked-clause-enough c = IfOk-from_err c.from_residual-in_err-revoked.result _ c.from_residual-in_err-revoked.ensures.0
+
+pub returns-in_err-revoked-clause-granted_fairly : goal.returns-in_err-revoked-clause-granted_fairly
+returns-in_err-revoked-clause-granted_fairly c = IfOk-from_err c.from_residual-in_err-revoked.result _ c.from_residual-in_err-revoked.ensures.0
+
+pub returns-in_err-paged-clause-plan : goal.returns-in_err-paged-clause-plan
+returns-in_err-paged-clause-plan c = IfOk-from_err c.from_residual-in_err-paged.result _ c.from_residual-in_err-paged.ensures.0
+
+pub returns-in_err-paged-clause-can : goal.returns-in_err-paged-clause-can
+returns-in_err-paged-clause-can c = IfOk-from_err c.from_residual-in_err-paged.result _ c.from_residual-in_err-paged.ensures.0
+
+pub returns-in_err-paged-clause-done : goal.returns-in_err-paged-clause-done
+returns-in_err-paged-clause-done c = IfOk-from_err c.from_residual-in_err-paged.result _ c.from_residual-in_err-paged.ensures.0
+
+pub returns-in_err-paged-clause-taken_fairly : goal.returns-in_err-paged-clause-taken_fairly
+returns-in_err-paged-clause-taken_fairly c = IfOk-from_err c.from_residual-in_err-paged.result _ c.from_residual-in_err-paged.ensures.0
+
+pub returns-in_err-paged-clause-enough : goal.returns-in_err-paged-clause-enough
+returns-in_err-paged-clause-enough c = IfOk-from_err c.from_residual-in_err-paged.result _ c.from_residual-in_err-paged.ensures.0
+
+pub returns-in_err-paged-clause-granted_fairly : goal.returns-in_err-paged-clause-granted_fairly
+returns-in_err-paged-clause-granted_fairly c = IfOk-from_err c.from_residual-in_err-paged.result _ c.from_residual-in_err-paged.ensures.0
+
+pub returns-in_err-granted-clause-plan : goal.returns-in_err-granted-clause-plan
+returns-in_err-granted-clause-plan c = IfOk-from_err c.from_residual-in_err-granted.result _ c.from_residual-in_err-granted.ensures.0
+
+pub returns-in_err-granted-clause-can : goal.returns-in_err-granted-clause-can
+returns-in_err-granted-clause-can c = IfOk-from_err c.from_residual-in_err-granted.result _ c.from_residual-in_err-granted.ensures.0
+
+pub returns-in_err-granted-clause-done : goal.returns-in_err-granted-clause-done
+returns-in_err-granted-clause-done c = IfOk-from_err c.from_residual-in_err-granted.result _ c.from_residual-in_err-granted.ensures.0
+
+pub returns-in_err-granted-clause-taken_fairly : goal.returns-in_err-granted-clause-taken_fairly
+returns-in_err-granted-clause-taken_fairly c = IfOk-from_err c.from_residual-in_err-granted.result _ c.from_residual-in_err-granted.ensures.0
+
+pub returns-in_err-granted-clause-enough : goal.returns-in_err-granted-clause-enough
+returns-in_err-granted-clause-enough c = IfOk-from_err c.from_residual-in_err-granted.result _ c.from_residual-in_err-granted.ensures.0
+
+pub returns-in_err-granted-clause-granted_fairly : goal.returns-in_err-granted-clause-granted_fairly
+returns-in_err-granted-clause-granted_fairly c = IfOk-from_err c.from_residual-in_err-granted.result _ c.from_residual-in_err-granted.ensures.0
+
+pub returns-in_err-blocked-clause-plan : goal.returns-in_err-blocked-clause-plan
+returns-in_err-blocked-clause-plan c = IfOk-from_err c.from_residual-in_err-blocked.result _ c.from_residual-in_err-blocked.ensures.0
+
+pub returns-in_err-blocked-clause-can : goal.returns-in_err-blocked-clause-can
+returns-in_err-blocked-clause-can c = IfOk-from_err c.from_residual-in_err-blocked.result _ c.from_residual-in_err-blocked.ensures.0
+
+pub returns-in_err-blocked-clause-done : goal.returns-in_err-blocked-clause-done
+returns-in_err-blocked-clause-done c = IfOk-from_err c.from_residual-in_err-blocked.result _ c.from_residual-in_err-blocked.ensures.0
+
+pub returns-in_err-blocked-clause-taken_fairly : goal.returns-in_err-blocked-clause-taken_fairly
+returns-in_err-blocked-clause-taken_fairly c = IfOk-from_err c.from_residual-in_err-blocked.result _ c.from_residual-in_err-blocked.ensures.0
+
+pub returns-in_err-blocked-clause-enough : goal.returns-in_err-blocked-clause-enough
+returns-in_err-blocked-clause-enough c = IfOk-from_err c.from_residual-in_err-blocked.result _ c.from_residual-in_err-blocked.ensures.0
+
+pub returns-in_err-blocked-clause-granted_fairly : goal.returns-in_err-blocked-clause-granted_fairly
+returns-in_err-blocked-clause-granted_fairly c = IfOk-from_err c.from_residual-in_err-blocked.result _ c.from_residual-in_err-blocked.ensures.0
+
+pub returns-in_err-rows-clause-memory : goal.returns-in_err-rows-clause-memory
+returns-in_err-rows-clause-memory c = some_guest c.from_residual.result c.in_err-rows.ensures.memory
+
+pub returns-in_err-revoked-clause-memory : goal.returns-in_err-revoked-clause-memory
+returns-in_err-revoked-clause-memory c = some_guest c.from_residual-in_err-revoked.result c.in_err-revoked.ensures.memory

@@ -51,3 +51,9 @@ returns-clause-rows c =
     ∙ (ap (λ (rows : List Row). rows_after rows plan) c.requires.rows
     ∙ (rows-fallen policy.tax pool plan (fair-boundary policy.tax wanted pool plan list)
     ∙ ap (λ (moves : List ℕ). rows_of (fold (changed revoked) pool moves).guests) is))
+
+pub returns-clause-plan : goal.returns-clause-plan
+returns-clause-plan c =
+    let policy = policy_in c.args.numbers.now in
+    c.in_ok-plan.ensures.exact
+    ∙ (λ i. revocation_list policy.tax (shortfall_of c.args.state (c.free.ensures.free i) policy.thresholds (c.requires.rows i)) (c.requires.rows i))

@@ -8,3 +8,6 @@ pub returns : goal.returns
 returns c =
     let leaf : Weighted → Option Contender = λ w. Some (record { weighted = w; position = c.args.position }) in
     ap leaf c.new-weighted.ensures ∙ ap (leaf_of c.args.position) (sym c.in_ok-price.was)
+
+pub returns-in_err-price : goal.returns-in_err-price
+returns-in_err-price c = c.from_residual.ensures ∙ ap (leaf_of c.args.position) (sym c.in_err-price.was)

@@ -1,4 +1,5 @@
 use Rattle.std.proofs.Common.{arith, ap, ◌∙◌, ◌+◌, ◌≡◌, ℕ, subst, sym, List}
+use Rattle.std.proofs.lemmas.List.{nil_from_length}
 use Rattle.std.specs.Prelude.{nat_eq}
 use Rattle.std.specs.List.{All}
 use Rattle.vm_board.specs.States.{PassState}
@@ -49,3 +50,19 @@ loop-other-preserved g c = let b = c.args.self.now in let is = c.loop-other.inva
           let was = is.5 n in omega arith),
       both.0,
     )
+
+pub unreachable-requires : goal.unreachable-requires
+unreachable-requires g c = let none = c.in_default.ensures.cases in let len = c.requires.passes.0 in let seats = ap (λ s. s.seats) c.self.view_is in let some_seat = c.self.invariant.some_seat in omega arith
+
+pub destroy_empty-requires : goal.destroy_empty-requires
+destroy_empty-requires g c = c.in_default-pop.ensures.cases.1
+
+pub returns-clause-table : goal.returns-clause-table
+returns-clause-table g c = c.loop-other.invariant.0
+
+pub returns-clause-whole : goal.returns-clause-whole
+returns-clause-whole g c = let is = c.loop-other.invariant in let none = c.in_default-pop.ensures.cases in let weight = is.1 in (omega arith, is.3, is.4)
+
+pub returns-clause-drawn : goal.returns-clause-drawn
+returns-clause-drawn g c n = let was = c.loop-other.invariant.5 n in let none = c.in_default-pop.ensures.cases in let long = c.loop-other.passes.ok in
+    let rest = ap (total (λ (p : PassState). times n p.drawn)) (nil_from_length c.loop-other.passes.items (omega arith)) in omega arith

@@ -1,6 +1,5 @@
-use Rattle.std.proofs.Common.{◌≡◌, ◌≢◌, ◌∙◌, ◌<◌, ◌≤◌, ℕ, List, ⊎_elim, ap, arith, inl, inr, length, map, refl, rules, string_bytes, subst, sym}
+use Rattle.std.proofs.Common.{◌∙◌, ◌<◌, ℕ, List, ⊎_elim, ap, arith, inl, inr, length, map, refl, string_bytes, subst, sym}
 use Rattle.std.proofs.lemmas.List.{length-map}
-use Rattle.vm_host.specs.declared.phase.Phase.TheVariants.{Failed}
 use Rattle.vm_host.specs.Boundary.{boundary_of, past_boundary, FailsAfterSome}
 use Rattle.vm_host.specs.Fairness.{IsFairBoundary}
 use Rattle.vm_host.specs.Parts.{world_of}
@@ -10,6 +9,7 @@ use Rattle.vm_host.proofs.FailLemmas.{fails-from, fails-some, fails-whole, paire
 use Rattle.vm_host.proofs.FairnessLemmas.{fair-bounded}
 use Rattle.vm_host.proofs.KeptLemmas.{ready-bounded}
 use Rattle.vm_host.proofs.LineLemmas.{bounded-sound}
+use Rattle.vm_host.proofs.PhaseLemmas.{failed-memory, is-failed, memory-failed, not-failed, ok-err}
 use Rattle.vm_host.proofs.SoundLemmas.{paired-domains}
 use Rattle.vm_reclaim.specs.Policy.{policy_of}
 use Rattle.vm_host.proofs.host.Host.boundary.Goals as goal
@@ -21,20 +21,20 @@ same-self c = refl
 
 pub returns-then-eq-clause-failed : goal.returns-then-eq-clause-failed
 returns-then-eq-clause-failed c =
-    let failed : (world_of c.self.inside.parts).phase ≡ Failed = search rules in
+    let failed = is-failed c.self.inside.parts.phase (sym c.eq.ensures ∙ c.if-eq.true) in
     (λ _. ap (λ (w : World). w.phase) (sym c.self.view_is) ∙ failed, λ _. refl)
 
 pub returns-then-eq-clause-unchanged : goal.returns-then-eq-clause-unchanged
 returns-then-eq-clause-unchanged c = λ _. refl
 
 pub returns-then-eq-clause-memory : goal.returns-then-eq-clause-memory
-returns-then-eq-clause-memory c = λ is. absurd cc
+returns-then-eq-clause-memory c = λ is. failed-memory is
 
 pub returns-then-eq-clause-wanted : goal.returns-then-eq-clause-wanted
-returns-then-eq-clause-wanted c = λ is. absurd cc
+returns-then-eq-clause-wanted c = λ is. failed-memory is
 
 pub returns-then-eq-clause-kept : goal.returns-then-eq-clause-kept
-returns-then-eq-clause-kept c = λ is. absurd cc
+returns-then-eq-clause-kept c = λ is. failed-memory is
 
 pub returns-then-eq-clause-conserves : goal.returns-then-eq-clause-conserves
 returns-then-eq-clause-conserves c = subst (λ (w : World). Conserves w) c.self.view_is c.self.invariant.adds_up
@@ -43,12 +43,12 @@ returns-then-eq-clause-conserves c = subst (λ (w : World). Conserves w) c.self.
 
 pub bound-requires-clause-sound : goal.bound-requires-clause-sound
 bound-requires-clause-sound c =
-    let fails : (world_of c.self.inside.parts).phase ≢ Failed = λ is. search rules in
+    let fails = not-failed c.self.inside.parts.phase (sym c.eq.ensures ∙ c.if-eq.false) in
     c.self.invariant.sound fails
 
 pub bound-requires-clause-booked : goal.bound-requires-clause-booked
 bound-requires-clause-booked c =
-    let fails : (world_of c.self.inside.parts).phase ≢ Failed = λ is. search rules in
+    let fails = not-failed c.self.inside.parts.phase (sym c.eq.ensures ∙ c.if-eq.false) in
     c.self.invariant.booked fails
 
 -- ---- the boundary is done
@@ -57,7 +57,7 @@ pub invariant_of-self : goal.invariant_of-self
 invariant_of-self c =
     let w = world_of c.self.inside.parts in
     let lines = map string_bytes c.as_slice.result.now in
-    let fails : w.phase ≢ Failed = λ is. search rules in
+    let fails = not-failed w.phase (sym c.eq.ensures ∙ c.if-eq.false) in
     let sound = subst (λ (v : World). IsSoundWorld v) (sym c.in-Ok.ensures.done) (bounded-sound (policy_of w.machine) w lines (c.self.invariant.sound fails)) in
     record { paired = paired-domains _ sound; adds_up = sound.conserves; sound = λ _. sound; booked = λ _. c.in-Ok.ensures.booked }
 
@@ -75,26 +75,26 @@ returns-in-Ok-clause-ready c =
 
 pub returns-in-Ok-clause-failed : goal.returns-in-Ok-clause-failed
 returns-in-Ok-clause-failed c =
-    let fails : (world_of c.self.inside.parts).phase ≢ Failed = λ is. search rules in
-    (λ is. absurd cc, λ is. absurd (fails (ap (λ (v : World). v.phase) c.self.view_is ∙ is)))
+    let fails = not-failed c.self.inside.parts.phase (sym c.eq.ensures ∙ c.if-eq.false) in
+    (λ is. ok-err is, λ is. absurd (fails (ap (λ (v : World). v.phase) c.self.view_is ∙ is)))
 
 pub returns-in-Ok-clause-unchanged : goal.returns-in-Ok-clause-unchanged
-returns-in-Ok-clause-unchanged c = λ is. absurd cc
+returns-in-Ok-clause-unchanged c = λ is. ok-err is
 
 pub returns-in-Ok-clause-memory : goal.returns-in-Ok-clause-memory
-returns-in-Ok-clause-memory c = λ is. absurd cc
+returns-in-Ok-clause-memory c = λ is. ok-err is
 
 pub returns-in-Ok-clause-wanted : goal.returns-in-Ok-clause-wanted
-returns-in-Ok-clause-wanted c = λ is. absurd cc
+returns-in-Ok-clause-wanted c = λ is. ok-err is
 
 pub returns-in-Ok-clause-kept : goal.returns-in-Ok-clause-kept
-returns-in-Ok-clause-kept c = λ is. absurd cc
+returns-in-Ok-clause-kept c = λ is. ok-err is
 
 pub returns-in-Ok-clause-conserves : goal.returns-in-Ok-clause-conserves
 returns-in-Ok-clause-conserves c =
     let w = world_of c.self.inside.parts in
     let lines = map string_bytes c.as_slice.result.now in
-    let fails : w.phase ≢ Failed = λ is. search rules in
+    let fails = not-failed w.phase (sym c.eq.ensures ∙ c.if-eq.false) in
     let sound = subst (λ (v : World). IsSoundWorld v) (sym c.in-Ok.ensures.done) (bounded-sound (policy_of w.machine) w lines (c.self.invariant.sound fails)) in
     sound.conserves
 
@@ -102,7 +102,7 @@ pub returns-in-Ok-clause-good : goal.returns-in-Ok-clause-good
 returns-in-Ok-clause-good c =
     let w = world_of c.self.inside.parts in
     let lines = map string_bytes c.as_slice.result.now in
-    let fails : w.phase ≢ Failed = λ is. search rules in
+    let fails = not-failed w.phase (sym c.eq.ensures ∙ c.if-eq.false) in
     let sound = subst (λ (v : World). IsSoundWorld v) (sym c.in-Ok.ensures.done) (bounded-sound (policy_of w.machine) w lines (c.self.invariant.sound fails)) in
     sound.pool.good
 
@@ -110,7 +110,7 @@ pub returns-in-Ok-clause-fair : goal.returns-in-Ok-clause-fair
 returns-in-Ok-clause-fair c =
     let w = world_of c.self.inside.parts in
     let lines = map string_bytes c.as_slice.result.now in
-    let fails : w.phase ≢ Failed = λ is. search rules in
+    let fails = not-failed w.phase (sym c.eq.ensures ∙ c.if-eq.false) in
     let fair = fair-bounded (policy_of w.machine) w lines (c.self.invariant.sound fails) in
     subst (λ (l : List (List ℕ)). IsFairBoundary (policy_of c.args.self.now.machine) c.args.self.now l) c.as_slice.ensures
     (subst (λ (v : World). IsFairBoundary (policy_of v.machine) v lines) c.self.view_is fair)
@@ -120,7 +120,7 @@ returns-in-Ok-clause-fair c =
 pub invariant_of-self-in-Err : goal.invariant_of-self-in-Err
 invariant_of-self-in-Err c =
     let w = world_of c.self.inside.parts in
-    let fails : w.phase ≢ Failed = λ is. search rules in
+    let fails = not-failed w.phase (sym c.eq.ensures ∙ c.if-eq.false) in
     let failed = ap (λ (v : World). v.phase) c.fail.ensures.failed in
     let from = fails-from w (world_of c.bound.new.parts) (world_of c.fail.new.parts) c.in-Err.ensures.kept c.fail.ensures.failed in
     record {
@@ -132,11 +132,11 @@ invariant_of-self-in-Err c =
 
 pub returns-in-Err-clause-failed : goal.returns-in-Err-clause-failed
 returns-in-Err-clause-failed c =
-    let fails : (world_of c.self.inside.parts).phase ≢ Failed = λ is. search rules in
-    (λ is. absurd cc, λ is. absurd (fails (ap (λ (v : World). v.phase) c.self.view_is ∙ is)))
+    let fails = not-failed c.self.inside.parts.phase (sym c.eq.ensures ∙ c.if-eq.false) in
+    (λ is. memory-failed is, λ is. absurd (fails (ap (λ (v : World). v.phase) c.self.view_is ∙ is)))
 
 pub returns-in-Err-clause-unchanged : goal.returns-in-Err-clause-unchanged
-returns-in-Err-clause-unchanged c = λ is. absurd cc
+returns-in-Err-clause-unchanged c = λ is. memory-failed is
 
 pub returns-in-Err-clause-memory : goal.returns-in-Err-clause-memory
 returns-in-Err-clause-memory c =
@@ -162,5 +162,5 @@ returns-in-Err-clause-kept c =
 pub returns-in-Err-clause-conserves : goal.returns-in-Err-clause-conserves
 returns-in-Err-clause-conserves c =
     let w = world_of c.self.inside.parts in
-    let fails : w.phase ≢ Failed = λ is. search rules in
+    let fails = not-failed w.phase (sym c.eq.ensures ∙ c.if-eq.false) in
     fails-whole w (world_of c.bound.new.parts) (world_of c.fail.new.parts) (c.self.invariant.sound fails) c.in-Err.ensures.kept c.fail.ensures.failed c.fail.ensures.adds_up

@@ -1,7 +1,7 @@
 use Rattle.std.proofs.Common.{Some, refl, ap, sym, ◌∙◌, arith, vec_capacity}
 use Rattle.std.proofs.lemmas.Option.{some_pair_parts}
 use Rattle.vm_swap.specs.Slots.{entries_of}
-use Rattle.vm_swap.proofs.Kept.{found_at, absent_at, index_at, slot_read, length-entries_of, hands_over_sets, handed_values, kept_handed}
+use Rattle.vm_swap.proofs.Kept.{inside_index, found_at, absent_at, index_at, slot_read, length-entries_of, hands_over_sets, handed_values, kept_handed}
 use Rattle.vm_swap.proofs.table.Table.hand_over.Goals as goal
 
 pub index_mut-requires : goal.index_mut-requires
@@ -45,3 +45,16 @@ pub returns-in-None-clause-absent : goal.returns-in-None-clause-absent
 returns-in-None-clause-absent g c =
     let at = index_at _ _ _ _ _ c.deref.ensures.value c.slot_of.ensures c.in-None.is in
     rw (← c.self.view_is) (absent_at (entries_of c.self.inside.slots.items) _ _ c.args.page c.self.invariant at)
+
+pub index_mut-requires-in-Some : goal.index_mut-requires-in-Some
+index_mut-requires-in-Some g c =
+    let at = index_at _ _ _ _ _ c.deref.ensures.value c.slot_of.ensures c.in-Some.is in
+    let noted = inside_index c.self.inside.index.items c.args.page c.in-Some.slot at in
+    omega (arith, noted, c.self.inside.index.ok.0)
+
+pub note_slot-requires : goal.note_slot-requires
+note_slot-requires g c = record {
+  in_range = c.requires.in_range;
+  room = c.self.invariant.index_room;
+  within = (let within = c.self.invariant.index_within in let long = c.self.inside.index.ok.0 in omega arith);
+}

@@ -3,7 +3,7 @@ use Rattle.std.proofs.lemmas.List.{length-set}
 use Rattle.std.proofs.lemmas.Option.{some_pair_parts}
 use Rattle.vm_swap.specs.Slots.{entries_of}
 use Rattle.vm_swap.proofs.Absent.{remove-absent}
-use Rattle.vm_swap.proofs.Kept.{found_at, absent_at, index_at, slot_read, last_page, page_inside, forgets_sets, forgotten_values, kept_forgotten, length-entries_of}
+use Rattle.vm_swap.proofs.Kept.{inside_index, found_at, absent_at, index_at, slot_read, last_page, page_inside, forgets_sets, forgotten_values, kept_forgotten, length-entries_of}
 use Rattle.vm_swap.proofs.table.Table.remove.Goals as goal
 
 pub overflow_sub-len : goal.overflow_sub-len
@@ -76,3 +76,9 @@ returns-in-None-clause-removed g c =
     let at = index_at _ _ _ _ _ c.deref.ensures.value c.slot_of.ensures c.in-None.is in
     let gone = absent_at (entries_of c.self.inside.slots.items) _ _ c.args.page c.self.invariant at in
     rw (← c.self.view_is) (λ i. record { values = sym (remove-absent _ c.args.page gone) i; room = vec_capacity c.self.inside.slots })
+
+pub index_mut-requires-in-Some : goal.index_mut-requires-in-Some
+index_mut-requires-in-Some g c =
+    let at = index_at _ _ _ _ _ c.deref.ensures.value c.slot_of.ensures c.in-Some.is in
+    let noted = inside_index c.self.inside.index.items c.args.page c.in-Some.slot at in
+    omega (arith, noted, c.self.inside.index.ok.0)
