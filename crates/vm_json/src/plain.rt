@@ -70,8 +70,7 @@ fn plain_value<'a>(alloc: Global, text: &'a str, depth: usize) -> Result<(Value<
         if depth == 0 {
             return Err(Stop::NotPlain);
         }
-        let array = plain_items(alloc, inside, depth - 1)?;
-        return Ok(array);
+        return plain_items(alloc, inside, depth - 1);
     }
     if let Some(inside) = after(b'{', text) {
         if depth == 0 {

@@ -107,9 +107,10 @@ pub(crate) fn read_value<'a>(
     ensures invalid { result ≡ Err NotJson → value depth reader.old ≡ None }
     ensures memory { result ≡ Err Memory → IsTrue (opens reader.old) }
 {
-    let token = reader.next().ok_or(ReadError::NotJson)?;
-    let value = value_from(alloc, token, reader, depth)?;
-    Ok(value)
+    let Some(token) = reader.next() else {
+        return Err(ReadError::NotJson);
+    };
+    value_from(alloc, token, reader, depth)
 }
 
 // The value that a token begins.
@@ -135,8 +136,7 @@ fn value_from<'a>(
             if depth == 0 {
                 return Err(ReadError::NotJson);
             }
-            let array = read_items(alloc, reader, depth - 1)?;
-            Ok(array)
+            read_items(alloc, reader, depth - 1)
         }
         Token::BeginObject => {
             if depth == 0 {
@@ -162,7 +162,9 @@ fn read_items<'a>(
     let mut texts = Vec::new(alloc);
     let mut values = Vec::new(alloc);
     while !reader.take_end_array() {
-        let token = reader.next().ok_or(ReadError::NotJson)?;
+        let Some(token) = reader.next() else {
+            return Err(ReadError::NotJson);
+        };
         if let Token::String(text) = token {
             gather(&mut texts, &mut values, text)?;
         } else {

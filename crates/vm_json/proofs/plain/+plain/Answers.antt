@@ -1,4 +1,4 @@
-use Rattle.std.proofs.Common.{◌≡◌, ℕ, ◌<◌, ◌∷◌, List, length, map, Bool, true, false, cond, Option, Some, Ok, Err, Result, sym, ap, subst, ◌∙◌, rules, arith}
+use Rattle.std.proofs.Common.{◌≡◌, ℕ, ◌-◌, ◌<◌, ◌≤◌, ◌∷◌, List, length, map, Bool, true, false, cond, Option, Some, Ok, Err, Result, sym, ap, subst, ◌∙◌, rules, arith}
 use Rattle.std.proofs.lemmas.List.{append-nil}
 use Rattle.std.proofs.lemmas.Simd.{map-map}
 use Rattle.std.specs.Borrow.{Bor}
@@ -25,6 +25,10 @@ content P o a is h = subst (λ r. IfSome r P) is h
 ok_content : {A E : Type 0} (P : A → Type 0) (r : Result A E) (o : Option A) → o ≡ result_ok r → IfSome o P → IfOk r P
 ok_content P (Ok a) o is h = subst (λ q. IfSome q P) is h
 ok_content P (Err e) o is h = tt
+
+each_ok : {A E : Type 0} (P Q : A → Type 0) → ((a : A) → P a → Q a) → (r : Result A E) → IfOk r P → IfOk r Q
+each_ok P Q then (Ok a) h = then a h
+each_ok P Q then (Err e) h = tt
 
 -- what stands behind an item, once it is known whether that is the closing bracket
 seen_behind : (next : List ℕ) (closing : Lexeme) (o : Option (Bool × Bor (List ℕ))) (ended : Bool) (behind : Bor (List ℕ)) (is : Bool)
@@ -115,9 +119,19 @@ plain_members-loop-members-preserved t c =
 
 pub plain_value-returns-in-Some-clause-value : goal.plain_value-returns-in-Some-clause-value
 plain_value-returns-in-Some-clause-value t c =
+    let text = c.args.text.now in
     let inside = c.in-Some.inside.now in
-    let found = c.in_ok-array.array in
-    array_given c.args.depth c.args.text.now inside found.1.now (value_view found.0) (omega arith) c.in-Some.ensures.lexemes c.in_ok-array.ensures.value
+    each_ok (λ f. GivesArray (c.args.depth - 1) inside (value_view f.0) f.1.now) (λ f. GivesValue c.args.depth text (value_view f.0) f.1.now)
+    (λ f given. array_given c.args.depth text inside f.1.now (value_view f.0) (omega arith) c.in-Some.ensures.lexemes given)
+    c.plain_items.result c.plain_items.ensures.value
+
+pub plain_value-returns-in-Some-clause-shorter : goal.plain_value-returns-in-Some-clause-shorter
+plain_value-returns-in-Some-clause-shorter t c =
+    let text = c.args.text.now in
+    let inside = c.in-Some.inside.now in
+    let less : length inside < length text = c.in-Some.ensures.shorter in
+    each_ok (λ f. length f.1.now ≤ length inside) (λ f. length f.1.now ≤ length text) (λ f few. omega (arith, less, few))
+    c.plain_items.result c.plain_items.ensures.shorter
 
 pub plain_value-returns-in-Some-after-clause-value : goal.plain_value-returns-in-Some-after-clause-value
 plain_value-returns-in-Some-after-clause-value t c =

@@ -1,10 +1,12 @@
-use Rattle.std.proofs.Common.{◌≡◌, ℕ, ◌-◌, ◌<◌, ◌≤◌, List, [], ◌∷◌, ◌++◌, length, Option, Some, None, sym, ap, ap₂, ◌∙◌, arith, rules}
+use Rattle.std.proofs.Common.{◌≡◌, ℕ, ◌-◌, ◌<◌, ◌≤◌, List, [], ◌∷◌, ◌++◌, length, Option, Some, None, Result, Ok, Err, sym, subst, ap, ap₂, ◌∙◌, arith, rules}
 use Rattle.json.specs.Token.{Token}
 use Rattle.json.specs.Json.{Json, Items, array, object, parse_map, after_end_array, read_key, items, members, value}
-use Rattle.json.specs.Reads.{token_of}
+use Rattle.std.specs.Prelude.{IfOk, IsTrue, OnOk}
+use Rattle.json.specs.Reads.{opens, token_of}
 use Rattle.json.proofs.Grammar.{value_is, value-begin_array, value-begin_object, read_key-shorter, items_end, items_fail, items_more, members_end, members_no_key, members_fail, members_more}
 use Rattle.vm_json.specs.Tree.{array_at, gathered, value_view}
-use Rattle.vm_json.specs.declared.value.Value.{Text, Number, Bool, Null, the_lemmas}
+use Rattle.vm_json.specs.declared.error.ReadError.{ReadError}
+use Rattle.vm_json.specs.declared.value.Value.{Value, Text, Number, Bool, Null, the_lemmas}
 use Rattle.vm_json.proofs.TreeLemmas.{items_before, members_before, items_before-no_items, members_before-no_members, one_more_item, gathered_push, one_more_member, none_before, view-Object}
 use Rattle.vm_json.proofs.value.+read.Goals as goal
 
@@ -19,21 +21,46 @@ item_more p n all before after j tokens rest so_far enough going read less pushe
       so_far ∙ ap (parse_map (items_before before)) turn ∙ one_more_item before j _ ∙ ap (λ js. parse_map (items_before js) (items p (n - 1) rest)) (sym pushed),
     )
 
-pub read_value-returns-in_err-token-clause-invalid : goal.read_value-returns-in_err-token-clause-invalid
-read_value-returns-in_err-token-clause-invalid t c invalid =
+-- what holds of a result whose value is read from other tokens, or that leaves fewer
+begun : (rest : List Token) (read same : Option (Json × List Token)) → read ≡ same → (r : Result Value ReadError)
+    → IfOk r (λ v. same ≡ Some (value_view v, rest)) → IfOk r (λ v. read ≡ Some (value_view v, rest))
+begun rest read same is (Ok v) found = is ∙ found
+begun rest read same is (Err e) found = tt
+
+sooner : (a b c : ℕ) (r : Result Value ReadError) → b < c → OnOk r (a ≤ b) → OnOk r (a < c)
+sooner a b c (Ok v) less few = omega (arith, less, few)
+sooner a b c (Err e) less few = tt
+
+no_later : (a b : ℕ) (r : Result Value ReadError) → OnOk r (a < b) → OnOk r (a ≤ b)
+no_later a b (Ok v) less = omega (arith, less)
+no_later a b (Err e) less = tt
+
+pub read_value-returns-in_default-clause-invalid : goal.read_value-returns-in_default-clause-invalid
+read_value-returns-in_default-clause-invalid t c invalid =
     let empty : c.args.reader.now ≡ [] = grind arith in
     ap (value c.args.depth) empty ∙ value_is c.args.depth []
 
-pub read_value-returns-in_err-value-clause-invalid : goal.read_value-returns-in_err-value-clause-invalid
-read_value-returns-in_err-value-clause-invalid t c invalid =
-    let first : c.args.reader.now ≡ token_of c.in_ok-token.token ∷ c.next.new.self = grind arith in
-    let failed : value c.args.depth (token_of c.in_ok-token.token ∷ c.next.new.self) ≡ None = grind arith in
-    ap (value c.args.depth) first ∙ failed
+pub read_value-returns-clause-invalid : goal.read_value-returns-clause-invalid
+read_value-returns-clause-invalid t c invalid =
+    let first : c.args.reader.now ≡ token_of c.in-Some.token ∷ c.next.new.self = grind arith in
+    ap (value c.args.depth) first ∙ c.value_from.ensures.invalid invalid
+
+pub read_value-returns-clause-shorter : goal.read_value-returns-clause-shorter
+read_value-returns-clause-shorter t c =
+    let first : c.args.reader.now ≡ token_of c.in-Some.token ∷ c.next.new.self = grind arith in
+    let longer = ap length first in
+    sooner (length c.value_from.new.reader) (length c.next.new.self) (length c.args.reader.now) c.value_from.result
+    (omega (arith, longer)) c.value_from.ensures.shorter
+
+pub read_value-returns-clause-memory : goal.read_value-returns-clause-memory
+read_value-returns-clause-memory t c refused =
+    let first : c.args.reader.now ≡ token_of c.in-Some.token ∷ c.next.new.self = grind arith in
+    subst (λ ts. IsTrue (opens ts)) (sym first) (c.value_from.ensures.memory refused)
 
 pub read_value-returns-clause-ok : goal.read_value-returns-clause-ok
 read_value-returns-clause-ok t c =
-    let first : c.args.reader.now ≡ token_of c.in_ok-token.token ∷ c.next.new.self = grind arith in
-    ap (value c.args.depth) first ∙ c.in_ok-value.ensures.ok
+    let first : c.args.reader.now ≡ token_of c.in-Some.token ∷ c.next.new.self = grind arith in
+    begun c.value_from.new.reader _ _ (ap (value c.args.depth) first) c.value_from.result c.value_from.ensures.ok
 
 pub value_from-returns-then-depth-eq0-clause-invalid : goal.value_from-returns-then-depth-eq0-clause-invalid
 unfolding value
@@ -47,16 +74,19 @@ value_from-returns-then-depth-eq0-2-clause-invalid t c never =
     let none : c.args.depth ≡ 0 = omega arith in
     ap₂ value none (ap (λ k. token_of k ∷ c.args.reader.now) c.in-BeginObject.is)
 
-pub value_from-returns-in_err-array-in-BeginArray-clause-invalid : goal.value_from-returns-in_err-array-in-BeginArray-clause-invalid
-value_from-returns-in_err-array-in-BeginArray-clause-invalid t c invalid =
+pub value_from-returns-else-depth-eq0-clause-invalid : goal.value_from-returns-else-depth-eq0-clause-invalid
+value_from-returns-else-depth-eq0-clause-invalid t c invalid =
     let opened = ap (value c.args.depth) (ap (λ k. token_of k ∷ c.args.reader.now) c.in-BeginArray.is) ∙ value-begin_array c.args.depth c.args.reader.now (omega arith) in
-    let failed : items (value (c.args.depth - 1)) (length c.args.reader.now) c.args.reader.now ≡ None = grind arith in
-    opened ∙ ap (parse_map array) failed
+    opened ∙ ap (parse_map array) (c.read_items.ensures.invalid invalid)
 
-pub value_from-returns-in_ok-array-in-BeginArray-clause-ok : goal.value_from-returns-in_ok-array-in-BeginArray-clause-ok
-value_from-returns-in_ok-array-in-BeginArray-clause-ok t c =
+pub value_from-returns-else-depth-eq0-clause-shorter : goal.value_from-returns-else-depth-eq0-clause-shorter
+value_from-returns-else-depth-eq0-clause-shorter t c =
+    no_later (length c.read_items.new.reader) (length c.args.reader.now) c.read_items.result c.read_items.ensures.shorter
+
+pub value_from-returns-else-depth-eq0-clause-ok : goal.value_from-returns-else-depth-eq0-clause-ok
+value_from-returns-else-depth-eq0-clause-ok t c =
     let opened = ap (value c.args.depth) (ap (λ k. token_of k ∷ c.args.reader.now) c.in-BeginArray.is) ∙ value-begin_array c.args.depth c.args.reader.now (omega arith) in
-    opened ∙ c.in_ok-array-in-BeginArray.ensures.ok
+    begun c.read_items.new.reader _ _ opened c.read_items.result c.read_items.ensures.ok
 
 pub value_from-returns-in_err-members-in-BeginObject-clause-invalid : goal.value_from-returns-in_err-members-in-BeginObject-clause-invalid
 value_from-returns-in_err-members-in-BeginObject-clause-invalid t c invalid =
@@ -115,8 +145,8 @@ read_items-returns-in_err-item-clause-invalid t c invalid =
     let failed : p c.take_end_array.new.self ≡ None = grind arith in
     l.invariant.2 ∙ ap (parse_map (items_before (gathered l.texts.items l.values.items))) (items_fail p n l.reader going.0 (rw (← going.1) failed))
 
-pub read_items-returns-in_err-token-clause-invalid : goal.read_items-returns-in_err-token-clause-invalid
-read_items-returns-in_err-token-clause-invalid t c invalid =
+pub read_items-returns-in_default-clause-invalid : goal.read_items-returns-in_default-clause-invalid
+read_items-returns-in_default-clause-invalid t c invalid =
     let p = value c.args.depth in
     let l = c.loop-reader in
     let n = l.invariant.0 in
@@ -130,20 +160,20 @@ read_items-loop-reader-preserved t c =
     let l = c.loop-reader in
     let rest = c.next.new.self in
     let going : (after_end_array l.reader ≡ None) × (c.take_end_array.new.self ≡ l.reader) = grind arith in
-    let first : c.take_end_array.new.self ≡ token_of c.in_ok-token.token ∷ rest = grind arith in
-    let is : l.reader ≡ token_of c.in_ok-token.token ∷ rest = sym going.1 ∙ first in
+    let first : c.take_end_array.new.self ≡ token_of c.in-Some.token ∷ rest = grind arith in
+    let is : l.reader ≡ token_of c.in-Some.token ∷ rest = sym going.1 ∙ first in
     let done = c.in_ok-item.ensures in
     let longer = ap length is in
     let less : length c.value_from.new.reader < length l.reader = omega (arith, longer, done.shorter) in
     let turn = item_more (value c.args.depth) l.invariant.0 _ _ _ _ l.reader c.value_from.new.reader l.invariant.2 l.invariant.1 going.0 (ap (value c.args.depth) is ∙ done.ok) less (gathered_push l.texts.items l.values.items c.in_ok-item.item c.add.new.items.items c.in_ok-add.ensures.ok) in
     (turn.0, turn.1, turn.2, omega (arith, l.invariant.3))
 
-pub read_items-loop-reader-preserved-in-Continue-branch-2 : goal.read_items-loop-reader-preserved-in-Continue-branch-2
-read_items-loop-reader-preserved-in-Continue-branch-2 t c =
+pub read_items-loop-reader-preserved-in-Continue-1 : goal.read_items-loop-reader-preserved-in-Continue-1
+read_items-loop-reader-preserved-in-Continue-1 t c =
     let l = c.loop-reader in
     let rest = c.next.new.self in
     let going : (after_end_array l.reader ≡ None) × (c.take_end_array.new.self ≡ l.reader) = grind arith in
-    let first : c.take_end_array.new.self ≡ token_of c.in_ok-token.token ∷ rest = grind arith in
+    let first : c.take_end_array.new.self ≡ token_of c.in-Some.token ∷ rest = grind arith in
     let is : l.reader ≡ Token.string c.in-String.text.now ∷ rest = sym going.1 ∙ first ∙ ap (λ k. token_of k ∷ rest) c.in-String.is in
     let longer = ap length is in
     let less : length rest < length l.reader = omega (arith, longer) in
