@@ -9,6 +9,8 @@ pub mod ComposedLemmas
 pub mod ReadyLemmas
 pub mod TakenLemmas
 pub mod ImportLemmas
+pub mod FailedLemmas
+pub mod BackLemmas
 pub mod DraftLemmas
 pub mod ReadLemmas
 pub mod CountLemmas
@@ -19,6 +21,7 @@ pub mod FrontLemmas
 pub mod LogLemmas
 pub mod NumeralLemmas
 pub mod BlockStepLemmas
+pub mod LineLemmas
 pub mod WaitingLemmas
 mod FirstTouchLemmas
 mod MarkLemmas

@@ -3,7 +3,8 @@ use Rattle.std.proofs.Common.{◌≡◌, ℕ, ◌+◌, ◌-◌, ◌≤◌, inl, 
 use Rattle.std.proofs.Math.Seq.{take-add, take-append-add}
 use Rattle.std.proofs.lemmas.Bool.{cases_lt}
 use Rattle.std.proofs.lemmas.List.{take_all, take-append-le, append-nil}
-use Rattle.std.specs.Io.KnownBytes.{Appends, Consumes, Keeps}
+use Rattle.std.specs.Prelude.{Result, Ok, Err}
+use Rattle.std.specs.Io.KnownBytes.{Appends, Consumes, Keeps, WriteAppends}
 use Rattle.vm_streams.specs.Streams.{AppendsFront}
 
 pub Appends-then : (x y z : Option (List ℕ)) (a b : List ℕ) → Appends x y a → Appends y z b → Appends x z (a ++ b)
@@ -52,3 +53,9 @@ AppendsFront-longer x y text more front =
 pub Appends-then_front : (x y z : Option (List ℕ)) (a text : List ℕ) → Appends x y a → AppendsFront y z text → AppendsFront x z (a ++ text)
 Appends-then_front x y z a text done front =
     (length a + front.0, rw (take-append-add a text front.0) (Appends-then x y z _ _ done front.1))
+
+-- a front of the text, and then one more write of the rest, whatever it answers
+pub AppendsFront-write : {E : Type 0} (x y z : Option (List ℕ)) (text : List ℕ) (m : ℕ) (r : Result ℕ E)
+    → Appends x y (take m text) → WriteAppends y z r (take (length text - m) (drop m text)) → AppendsFront x z text
+AppendsFront-write x y z text m (Ok n) p q = (m + n, Appends-take_more x y z text m n p q)
+AppendsFront-write x y z text m (Err e) p q = (m, Appends-then_keeps x y z (take m text) p q)

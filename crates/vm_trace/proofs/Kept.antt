@@ -1,8 +1,8 @@
 -- What a trace keeps where bytes and entries come behind the others.
-use Rattle.std.proofs.Common.{◌≡◌, ℕ, ◌+◌, ◌<◌, ◌≤◌, List, [], ◌∷◌, ◌++◌, length, take, drop, All, Some, slice_get, slice_index_or, Result, Ok, Err, OnErr, refl, ap, sym, subst, ◌∙◌, arith}
+use Rattle.std.proofs.Common.{◌≡◌, ℕ, ◌+◌, ◌<◌, ◌≤◌, List, [], ◌∷◌, ◌++◌, length, take, drop, All, Some, None, slice_get, slice_index_or, Result, Ok, Err, OnErr, Option, IfNone, refl, ap, sym, subst, ◌∙◌, arith}
 use Rattle.std.proofs.lemmas.List.{length-append, length-drop, map-append, take-append-le, drop-append-le}
 use Rattle.std.proofs.lemmas.List.Elements.{All-head, All-tail, All-nil, All-cons, All-append, All-same, All-get_or}
-use Rattle.std.proofs.lemmas.Option.{slice_get-map, slice_get_read, slice_get_within, get_or_from_slice_get}
+use Rattle.std.proofs.lemmas.Option.{slice_get-map, slice_get_read, slice_get_within, slice_get_past, get_or_from_slice_get}
 use Rattle.std.specs.Option.{option_map}
 use Rattle.vm_trace.specs.declared.entry.Entry.{Entry}
 use Rattle.vm_trace.specs.declared.entry.Entry.TheVariants.{Read, Write, Free, Idle, Post}
@@ -56,6 +56,10 @@ pub on_err : {X E : Type 0} (r : Result X E) (P : Type 0) → P → OnErr r P
 on_err (Ok x) P p = tt
 on_err (Err e) P p = p
 
+pub on_none : {X : Type 0} (r : Option X) (P : Type 0) → P → IfNone r P
+on_none (Some x) P p = tt
+on_none None P p = p
+
 -- the same, of a list of bytes that is equal to one with more bytes behind
 pub kept_after : (old added new : List ℕ) (entries : List Entry) → new ≡ old ++ added → AreKept old entries → AreKept new entries
 kept_after old added new entries is kept = subst (λ bytes. AreKept bytes entries) (sym is) (kept_more old added entries kept)
@@ -87,3 +91,12 @@ pub read_at : (bytes seen_bytes : List ℕ) (entries seen : List Entry) (place :
 read_at bytes seen_bytes entries seen place e same_bytes same below read kept =
     let there : slice_get entries place ≡ Some e = ap (λ es. slice_get es place) (sym same) ∙ slice_get_read seen (length seen) place e refl below read in
     at_place seen_bytes entries place e there (subst (λ bytes. AreKept bytes entries) (sym same_bytes) kept)
+
+-- a copy of the bytes and of the entries keeps the same
+pub kept_copy : (bytes bytes_copy : List ℕ) (entries entries_copy : List Entry) → bytes_copy ≡ bytes → entries_copy ≡ entries → AreKept bytes entries → AreKept bytes_copy entries_copy
+kept_copy bytes bytes_copy entries entries_copy same_bytes same kept =
+    subst (λ bs. AreKept bs entries_copy) (sym same_bytes) (subst (AreKept bytes) (sym same) kept)
+
+-- behind the last entry is no step
+pub none_at : (bytes : List ℕ) (entries : List Entry) (place : ℕ) → length entries ≤ place → slice_get (steps_of bytes entries) place ≡ None
+none_at bytes entries place past = slice_get-map (action_at bytes) entries place ∙ ap (option_map (action_at bytes)) (slice_get_past entries place past)

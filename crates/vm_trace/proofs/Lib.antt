@@ -4,6 +4,7 @@ pub mod InFront
 pub mod Kept
 pub mod Numbers
 pub mod Padding
+pub mod Passed
 pub mod ReadIsSpelled
 pub mod SpelledIsRead
 pub mod WordCounts

@@ -1,9 +1,10 @@
 -- The number of a word, digit by digit.
-use Rattle.std.proofs.Common.{◌≡◌, ℕ, ◌+◌, ◌-◌, ◌*◌, ◌^◌, ◌<◌, ◌≤◌, ◌⊎◌, inl, inr, ◌&&◌, Bool, true, false, leb, List, length, take, get_or, Ok, Err, refl, ◌∙◌, arith, rules}
+use Rattle.std.proofs.Common.{◌≡◌, ℕ, ◌+◌, ◌-◌, ◌*◌, ◌^◌, ◌<◌, ◌≤◌, ◌⊎◌, inl, inr, ◌&&◌, Bool, true, false, leb, List, [], ◌∷◌, length, take, get_or, Ok, Err, refl, ◌∙◌, arith, rules}
 use Rattle.std.proofs.lemmas.Bool.{le-leb, lt-leb, leb-true, and_parts}
 use Rattle.std.proofs.lemmas.Int.Digits.{digits_value_more}
 use Rattle.std.proofs.lemmas.List.{length-take-le}
 use Rattle.std.proofs.lemmas.List.Folds.{list_all_at, list_all_more}
+use Rattle.std.proofs.lemmas.List.Sums.{AllPass-from_list_all}
 use Rattle.std.proofs.lemmas.Str.{digit_value_digit}
 use Rattle.std.proofs.lemmas.Str.Parse.{IsNumeralModel, numerals_by_value, digits_value_short}
 use Rattle.std.specs.Char.{is_ascii_digit}
@@ -11,6 +12,7 @@ use Rattle.std.specs.List.{list_all}
 use Rattle.std.specs.Str.Parse.{digits_value}
 use Rattle.vm_trace.specs.declared.error.TraceError.TheVariants.{Number}
 use Rattle.vm_trace.specs.Entering.{IsDecimal}
+use Rattle.vm_trace.specs.Spelling.{IsNumeral}
 use Rattle.vm_trace.specs.Words.{number_of}
 
 decimal : IsNumeralModel (λ ds. list_all is_ascii_digit ds ≡ true) (digits_value 10)
@@ -64,3 +66,33 @@ IsDecimal-small byte n is =
     let range = and_parts _ _ is.digit in
     let digit = digit_value_digit byte (leb-true _ _ range.0, leb-true _ _ range.1) in
     omega (arith, digit, is.value, leb-true _ _ range.0, leb-true _ _ range.1)
+
+-- a byte less than ten behind `0` is a decimal digit
+pub IsDecimal-below_ten : (byte n : ℕ) → 48 ≤ byte → byte ≤ 57 → n ≡ byte - 48 → IsDecimal byte n
+IsDecimal-below_ten byte n above below value = record {
+  digit = rw (le-leb 48 byte above, le-leb byte 57 below) refl;
+  value = omega (arith, value, digit_value_digit byte (above, below));
+}
+
+-- one digit, and two
+pub IsNumeral-one : (text : List ℕ) (n : ℕ) → 1 ≤ length text → length text < 2 → IsDecimal (get_or text 0 0) n → IsNumeral text n
+IsNumeral-one [] n some few ones = absurd (omega arith)
+IsNumeral-one (a ∷ []) n some few ones = record {
+  some = some;
+  short = omega arith;
+  digits = AllPass-from_list_all is_ascii_digit (a ∷ []) (rw ones.digit refl);
+  value = omega (arith, ones.value);
+}
+IsNumeral-one (a ∷ b ∷ text) n some few ones = absurd (omega arith)
+
+pub IsNumeral-two : (text : List ℕ) (m n : ℕ) → 2 ≤ length text → length text < 3 → IsDecimal (get_or text 0 0) m → IsDecimal (get_or text 1 0) n
+    → IsNumeral text (10 * m + n)
+IsNumeral-two [] m n some few tens ones = absurd (omega arith)
+IsNumeral-two (a ∷ []) m n some few tens ones = absurd (omega arith)
+IsNumeral-two (a ∷ b ∷ []) m n some few tens ones = record {
+  some = omega arith;
+  short = omega arith;
+  digits = AllPass-from_list_all is_ascii_digit (a ∷ b ∷ []) (rw (tens.digit, ones.digit) refl);
+  value = omega (arith, tens.value, ones.value);
+}
+IsNumeral-two (a ∷ b ∷ c ∷ text) m n some few tens ones = absurd (omega arith)

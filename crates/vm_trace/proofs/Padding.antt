@@ -1,7 +1,8 @@
 -- Bytes in a buffer, and zeros behind them.
-use Rattle.std.proofs.Common.{◌≡◌, ℕ, ◌+◌, ◌-◌, ◌≤◌, List, ◌++◌, length, drop, replicate, set, ap, sym, ◌∙◌, arith}
+use Rattle.std.proofs.Common.{◌≡◌, ℕ, ◌+◌, ◌-◌, ◌≤◌, List, ◌++◌, length, take, drop, replicate, set, ap, sym, ◌∙◌, arith}
 use Rattle.std.proofs.lemmas.List.{length-append, length-drop, drop-replicate, length-replicate, drop-set-lt, drop-drop}
 use Rattle.std.proofs.lemmas.Slice.{drop-append-drop}
+use Rattle.std.proofs.Math.Seq.{take-append_seam}
 use Rattle.vm_trace.specs.Bytes.{IsPadded}
 
 -- bytes written over the front of zeros
@@ -17,6 +18,10 @@ padded_copy bytes front zeros few front_is zeros_are =
           ∙ ap (drop (length bytes)) zeros_are
           ∙ drop-replicate (length bytes) 64 0;
     }
+
+-- the bytes are read again
+pub taken_copy : (bytes front rest : List ℕ) → front ≡ bytes → take (length bytes) (front ++ rest) ≡ bytes
+taken_copy bytes front rest is = ap (λ n. take n (front ++ rest)) (sym (ap length is)) ∙ take-append_seam front rest ∙ is
 
 -- one byte more over the front of zeros
 pub zeros_more : (buffer : List ℕ) (count i byte : ℕ) → drop i buffer ≡ replicate (count - i) 0 → drop (i + 1) (set buffer i byte) ≡ replicate (count - (i + 1)) 0

@@ -1,4 +1,4 @@
-use Rattle.std.proofs.Common.{◌≤◌, subst, arith}
+use Rattle.std.proofs.Common.{◌≡◌, ◌∙◌, ◌≤◌, refl, subst, arith}
 use Rattle.std.specs.Io.KnownBytes.{Appends}
 use Rattle.vm_import.specs.Reading.{Place, Stays, beginning, left, length_in_all}
 use Rattle.vm_streams.specs.Streams.{AppendsFront}
@@ -7,7 +7,8 @@ use Rattle.vm_import.specs.Failing.{FailsToSkip, Skips}
 use Rattle.vm_import.specs.Imports.{Fails}
 use Rattle.vm_import.specs.Settings.{settings_of}
 use Rattle.vm_import.specs.Texts.{tail_of}
-use Rattle.vm_import.specs.declared.outcome.ImportError.TheVariants.{Memory, Write}
+use Rattle.vm_import.specs.declared.outcome.ImportError.TheVariants.{Memory, Read, Write}
+use Rattle.vm_import.proofs.FailedLemmas.{is_error, kept_by, not_newly, since_earlier, told_by}
 use Rattle.vm_import.proofs.ImportLemmas.{fails-skipping, fails-taking, front-stopped, front-unfinished, front-unwritten, guest-written, untouched}
 use Rattle.vm_import.proofs.ReadLemmas.{passed-on}
 use Rattle.vm_import.proofs.import.import_log.Goals as goal
@@ -63,3 +64,73 @@ returns-clause-guest g c =
     subst (λ (place : Place). Skips c.args.settings.now.skip (left place (g.R.Source.remaining c.args.reader.now)) (left c.skip.new.log (g.R.Source.remaining c.skip.new.reader))) c.in_ok-log.ensures c.in_ok-skip.ensures.skipped in
     let some : 1 ≤ c.in_ok-taken.taken.size = omega arith in
     guest-written (settings_of c.args.settings.now) (g.R.Source.remaining c.args.reader.now) (left c.skip.new.log (g.R.Source.remaining c.skip.new.reader)) (g.W.Sink.contents c.args.writer.now) (g.W.Sink.contents c.take_intervals.new.writer) c.in_ok-taken.taken c.take_intervals.new.progress.draft skips c.in_ok-taken.ensures.taken (g.W.Sink.contents c.write.new.writer) some (subst (λ (d : DraftView). Appends (g.W.Sink.contents c.take_intervals.new.writer) (g.W.Sink.contents c.write.new.writer) d.text) {y = with_text c.take_intervals.new.progress.draft (tail_of (settings_of c.args.settings.now) c.in_ok-taken.taken.size c.take_intervals.new.progress.draft.steps)} c.in_ok-finish.ensures c.in_ok-write.ensures.written)
+
+pub returns-in_err-log-clause-reader_failed : goal.returns-in_err-log-clause-reader_failed
+returns-in_err-log-clause-reader_failed g c =
+    λ newly. absurd (not_newly (g.R.Source.has_failed c.args.reader.now) (g.R.Source.has_failed c.args.reader.now) (refl) newly)
+
+pub returns-in_err-log-clause-writer_failed : goal.returns-in_err-log-clause-writer_failed
+returns-in_err-log-clause-writer_failed g c =
+    λ newly. absurd (not_newly (g.W.Sink.has_failed c.args.writer.now) (g.W.Sink.has_failed c.args.writer.now) (refl) newly)
+
+pub returns-in_err-skip-clause-reader_failed : goal.returns-in_err-skip-clause-reader_failed
+returns-in_err-skip-clause-reader_failed g c =
+    λ newly.
+    told_by c.from_residual-in_err-skip.result c.in_err-skip.field-0.0 Read (g.R.Source.has_failed c.args.reader.now) (g.R.Source.has_failed c.skip.new.reader) c.from_residual-in_err-skip.ensures.1
+    c.in_err-skip.ensures.stays newly
+
+pub returns-in_err-skip-clause-writer_failed : goal.returns-in_err-skip-clause-writer_failed
+returns-in_err-skip-clause-writer_failed g c =
+    λ newly. absurd (not_newly (g.W.Sink.has_failed c.args.writer.now) (g.W.Sink.has_failed c.args.writer.now) (refl) newly)
+
+pub returns-in_err-progress-clause-reader_failed : goal.returns-in_err-progress-clause-reader_failed
+returns-in_err-progress-clause-reader_failed g c =
+    λ newly. absurd (not_newly (g.R.Source.has_failed c.args.reader.now) (g.R.Source.has_failed c.skip.new.reader) (kept_by (g.R.Source.has_failed c.skip.new.reader ≡ g.R.Source.has_failed c.args.reader.now) _ Read c.in_ok-skip.ensures.stays) newly)
+
+pub returns-in_err-progress-clause-writer_failed : goal.returns-in_err-progress-clause-writer_failed
+returns-in_err-progress-clause-writer_failed g c =
+    λ newly. absurd (not_newly (g.W.Sink.has_failed c.args.writer.now) (g.W.Sink.has_failed c.args.writer.now) (refl) newly)
+
+pub returns-in_err-taken-clause-reader_failed : goal.returns-in_err-taken-clause-reader_failed
+returns-in_err-taken-clause-reader_failed g c =
+    λ newly.
+    told_by c.from_residual-in_err-taken.result c.in_err-taken.field-0.0 Read (g.R.Source.has_failed c.args.reader.now) (g.R.Source.has_failed c.take_intervals.new.reader) c.from_residual-in_err-taken.ensures.1
+    (since_earlier (g.R.Source.has_failed c.take_intervals.new.reader) (g.R.Source.has_failed c.skip.new.reader) (g.R.Source.has_failed c.args.reader.now) c.in_err-taken.ensures.reads (kept_by (g.R.Source.has_failed c.skip.new.reader ≡ g.R.Source.has_failed c.args.reader.now) _ Read c.in_ok-skip.ensures.stays)) newly
+
+pub returns-in_err-taken-clause-writer_failed : goal.returns-in_err-taken-clause-writer_failed
+returns-in_err-taken-clause-writer_failed g c =
+    λ newly.
+    told_by c.from_residual-in_err-taken.result c.in_err-taken.field-0.0 Write (g.W.Sink.has_failed c.args.writer.now) (g.W.Sink.has_failed c.take_intervals.new.writer) c.from_residual-in_err-taken.ensures.1
+    c.in_err-taken.ensures.writes newly
+
+pub returns-then-taken-eq0-clause-reader_failed : goal.returns-then-taken-eq0-clause-reader_failed
+returns-then-taken-eq0-clause-reader_failed g c =
+    λ newly. absurd (not_newly (g.R.Source.has_failed c.args.reader.now) (g.R.Source.has_failed c.take_intervals.new.reader) (kept_by (g.R.Source.has_failed c.take_intervals.new.reader ≡ g.R.Source.has_failed c.skip.new.reader) _ Read c.in_ok-taken.ensures.reads ∙ kept_by (g.R.Source.has_failed c.skip.new.reader ≡ g.R.Source.has_failed c.args.reader.now) _ Read c.in_ok-skip.ensures.stays) newly)
+
+pub returns-then-taken-eq0-clause-writer_failed : goal.returns-then-taken-eq0-clause-writer_failed
+returns-then-taken-eq0-clause-writer_failed g c =
+    λ newly. absurd (not_newly (g.W.Sink.has_failed c.args.writer.now) (g.W.Sink.has_failed c.take_intervals.new.writer) (kept_by (g.W.Sink.has_failed c.take_intervals.new.writer ≡ g.W.Sink.has_failed c.args.writer.now) _ Write c.in_ok-taken.ensures.writes) newly)
+
+pub returns-in_err-finish-clause-reader_failed : goal.returns-in_err-finish-clause-reader_failed
+returns-in_err-finish-clause-reader_failed g c =
+    λ newly. absurd (not_newly (g.R.Source.has_failed c.args.reader.now) (g.R.Source.has_failed c.take_intervals.new.reader) (kept_by (g.R.Source.has_failed c.take_intervals.new.reader ≡ g.R.Source.has_failed c.skip.new.reader) _ Read c.in_ok-taken.ensures.reads ∙ kept_by (g.R.Source.has_failed c.skip.new.reader ≡ g.R.Source.has_failed c.args.reader.now) _ Read c.in_ok-skip.ensures.stays) newly)
+
+pub returns-in_err-finish-clause-writer_failed : goal.returns-in_err-finish-clause-writer_failed
+returns-in_err-finish-clause-writer_failed g c =
+    λ newly. absurd (not_newly (g.W.Sink.has_failed c.args.writer.now) (g.W.Sink.has_failed c.take_intervals.new.writer) (kept_by (g.W.Sink.has_failed c.take_intervals.new.writer ≡ g.W.Sink.has_failed c.args.writer.now) _ Write c.in_ok-taken.ensures.writes) newly)
+
+pub returns-in_err-write-clause-reader_failed : goal.returns-in_err-write-clause-reader_failed
+returns-in_err-write-clause-reader_failed g c =
+    λ newly. absurd (not_newly (g.R.Source.has_failed c.args.reader.now) (g.R.Source.has_failed c.take_intervals.new.reader) (kept_by (g.R.Source.has_failed c.take_intervals.new.reader ≡ g.R.Source.has_failed c.skip.new.reader) _ Read c.in_ok-taken.ensures.reads ∙ kept_by (g.R.Source.has_failed c.skip.new.reader ≡ g.R.Source.has_failed c.args.reader.now) _ Read c.in_ok-skip.ensures.stays) newly)
+
+pub returns-in_err-write-clause-writer_failed : goal.returns-in_err-write-clause-writer_failed
+returns-in_err-write-clause-writer_failed g c =
+    λ newly. is_error c.from_residual-in_err-write.result Write c.from_residual-in_err-write.ensures.1
+
+pub returns-clause-reader_failed : goal.returns-clause-reader_failed
+returns-clause-reader_failed g c =
+    λ newly. absurd (not_newly (g.R.Source.has_failed c.args.reader.now) (g.R.Source.has_failed c.take_intervals.new.reader) (kept_by (g.R.Source.has_failed c.take_intervals.new.reader ≡ g.R.Source.has_failed c.skip.new.reader) _ Read c.in_ok-taken.ensures.reads ∙ kept_by (g.R.Source.has_failed c.skip.new.reader ≡ g.R.Source.has_failed c.args.reader.now) _ Read c.in_ok-skip.ensures.stays) newly)
+
+pub returns-clause-writer_failed : goal.returns-clause-writer_failed
+returns-clause-writer_failed g c =
+    λ newly. absurd (not_newly (g.W.Sink.has_failed c.args.writer.now) (g.W.Sink.has_failed c.write.new.writer) (c.in_ok-write.ensures.stays ∙ kept_by (g.W.Sink.has_failed c.take_intervals.new.writer ≡ g.W.Sink.has_failed c.args.writer.now) _ Write c.in_ok-taken.ensures.writes) newly)

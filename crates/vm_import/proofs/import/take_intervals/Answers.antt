@@ -1,4 +1,4 @@
-use Rattle.std.proofs.Common.{rules, ◌≡◌, ◌∙◌, ℕ, List, ◌+◌, ◌*◌, ◌≤◌, None, length, ap, refl, subst, sym, arith}
+use Rattle.std.proofs.Common.{◌≡◌, ◌∙◌, ℕ, List, ◌+◌, ◌*◌, ◌≤◌, None, length, ap, refl, subst, sym, arith}
 use Rattle.vm_import.specs.Reading.{left}
 use Rattle.vm_import.specs.Drafts.{DraftView, with_steps}
 use Rattle.vm_import.specs.Importing.{AreTaken, IsStopped}
@@ -10,6 +10,8 @@ use Rattle.vm_import.specs.declared.interval.IntervalEnd.TheVariants.{Full}
 use Rattle.vm_import.proofs.BeginLemmas.{begun, no_pages, none_kept}
 use Rattle.vm_import.proofs.ComposedLemmas.{Stays-refl, Stays-then}
 use Rattle.vm_import.proofs.CountLemmas.{after-none, after-steps, after-written, few-intervals, steps-more, written-more}
+use Rattle.vm_import.specs.declared.outcome.ImportError.TheVariants.{Read}
+use Rattle.vm_import.proofs.FailedLemmas.{kept_by}
 use Rattle.vm_import.proofs.ReadLemmas.{within}
 use Rattle.vm_import.proofs.TakenLemmas.{full, if-taken, on-err, stopped-reading, stopped-writing, taken-at, taken-next}
 use Rattle.vm_import.proofs.import.take_intervals.Goals as goal
@@ -133,6 +135,8 @@ loop-end-preserved g c =
           ap (λ (n : ℕ). n * c.args.settings.now.quantum) number in
           omega arith;
       length = Stays-then _ _ _ c.loop-end.invariant.length c.in_ok-end.ensures.length;
-      reads = search rules;
-      writes = search rules;
+      reads =
+          kept_by (g.R.Source.has_failed c.read_interval.new.reader ≡ g.R.Source.has_failed c.loop-end.reader) _ Read c.in_ok-end.ensures.stays
+          ∙ c.loop-end.invariant.reads;
+      writes = c.in_ok-interval.ensures.stays ∙ c.loop-end.invariant.writes;
     }

@@ -1,4 +1,4 @@
-use Rattle.std.proofs.Common.{rules, ◌≡◌, ◌∙◌, ◌<◌, ◌==◌, inr, List, [], ◌∷◌, ◌++◌, None, Option, length, sym, subst, arith, length-append}
+use Rattle.std.proofs.Common.{◌≡◌, ◌∙◌, ◌<◌, ◌==◌, inr, List, [], ◌∷◌, ◌++◌, None, Option, length, sym, subst, arith, length-append}
 use Rattle.vm_import.specs.declared.access.Access.{Access}
 use Rattle.vm_import.specs.Reading.{Gives, left, length_in_all}
 use Rattle.vm_import.specs.Errors.{error_of}
@@ -6,6 +6,7 @@ use Rattle.vm_import.specs.Failing.{FailsBehind}
 use Rattle.vm_import.specs.Progress.{IsUnderWay, limit_of}
 use Rattle.vm_import.specs.Settings.{settings_of}
 use Rattle.vm_import.proofs.ComposedLemmas.{Stays-then}
+use Rattle.vm_import.proofs.LineLemmas.{kept_so}
 use Rattle.vm_import.proofs.ReadLemmas.{err-same, fails, goes-on, grows-more, passed-on, passes-limit, positive, short-within, told, within}
 use Rattle.vm_import.proofs.interval.read_accesses.Goals as goal
 
@@ -84,5 +85,7 @@ loop-count-preserved g c =
           c.loop-count.progress.draft c.add.new.self.draft c.in_ok-limit.ensures.draft c.args.progress.now.draft
           c.in_ok-limit.ensures.kept c.loop-count.invariant.grows;
       length = Stays-then _ _ _ c.loop-count.invariant.length c.in_ok-access.ensures.length;
-      stays = search rules;
+      stays =
+          kept_so (g.R.Source.has_failed c.next_access.new.source ≡ g.R.Source.has_failed c.loop-count.reader) _ c.in_ok-access.ensures.stays
+          ∙ c.loop-count.invariant.stays;
     }

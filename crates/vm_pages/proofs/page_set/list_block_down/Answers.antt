@@ -1,4 +1,5 @@
-use Rattle.std.proofs.Common.{sym, ◌∙◌, refl, arith}
+use Rattle.std.proofs.Common.{◌≡◌, ◌*◌, sym, ap, ◌∙◌, refl, arith}
+use Rattle.vm_pages.specs.Extremes.{greatest_from}
 use Rattle.vm_pages.specs.Words.{marked}
 use Rattle.vm_pages.proofs.ExtremeLemmas.{greatest_from-same, greatest_from-full}
 use Rattle.vm_pages.proofs.WordLemmas.{length-marked}
@@ -15,3 +16,8 @@ pub returns-then-len-most-clause-after : goal.returns-then-len-most-clause-after
 returns-then-len-most-clause-after c =
     let invariant = c.loop-word.invariant in
     invariant.listed ∙ sym (greatest_from-full _ _ _ _ (omega (arith, invariant.above)) (rw (← invariant.listed) (omega arith)))
+
+pub returns-clause-after : goal.returns-clause-after
+returns-clause-after c =
+    let start : c.loop-word.word * 64 ≡ c.args.block * 2048 = omega arith in
+    c.loop-word.invariant.listed ∙ ap (λ page. greatest_from (marked c.args.words.now c.args.pages) page c.args.most) start

@@ -1,4 +1,4 @@
-use Rattle.std.proofs.Common.{◌≡◌, ℕ, [], ◌+◌, ◌<◌, ◌≤◌, ◌++◌, List, Option, Result, Ok, Err, All, IfErr, IfSome, IsSomeAnd, length, replicate, slice_get, ⊎_elim, sym, ap, ◌∙◌, subst, arith}
+use Rattle.std.proofs.Common.{◌≡◌, ℕ, [], ◌+◌, ◌-◌, ◌^◌, ◌<◌, ◌≤◌, ◌++◌, List, Option, Result, Ok, Err, All, IfErr, IfSome, IsSomeAnd, length, replicate, slice_get, ⊎_elim, sym, ap, ◌∙◌, subst, arith}
 use Rattle.std.proofs.lemmas.Bool.{false≢true}
 use Rattle.std.proofs.lemmas.Grind.{fold-append}
 use Rattle.std.proofs.lemmas.List.{length-append, length-map, length-replicate, with_items_is}
@@ -6,6 +6,7 @@ use Rattle.std.proofs.lemmas.Option.{slice_get_cases}
 use Rattle.std.proofs.lemmas.Result.{IfOk-from_err}
 use Rattle.vm_tax.specs.Ratio.{hundredths}
 use Rattle.vm_plan.specs.declared.row.PlanRow.{PlanRow}
+use Rattle.vm_plan.specs.Moves.{EachMove}
 use Rattle.vm_plan.specs.Row.{Row, change_at}
 use Rattle.vm_plan.specs.PlanRow.{row_of, rows_of, pool_of}
 use Rattle.vm_plan.specs.Grants.{Pool, CanGrow, IsNextGrant, IsGrantList, granted, pool_after, total_demand}
@@ -28,6 +29,16 @@ any_err (Err e) P h = h
 
 none_more : (moves : List ℕ) (n m : ℕ) → moves ≡ [] → m ≡ n → m ≡ n + length moves
 none_more moves n m e same = let empty = empty-length moves e in omega (arith, empty, same)
+
+-- sums, apart from all that is known in a turn
+few_moves : (start after new moves count : ℕ) → after ≡ start + moves → new ≡ after + count → new ≤ 67108864 → moves + count < 2 ^ 32
+few_moves start after new moves count e f few = omega arith
+
+fewer : (now old count : ℕ) → now + count ≡ old → 1 ≤ count → now < old
+fewer now old count e some = omega arith
+
+longer : (start count position : ℕ) (moves : List ℕ) → (start + length moves) + count ≡ start + length (moves ++ replicate count position)
+longer start count position moves = omega (arith, length-append moves (replicate count position), length-replicate count position)
 
 grow_within : (rows : List PlanRow) (k count free : ℕ) → IsSomeAnd (slice_get (rows_of rows) k) (CanGrowBy count free) → k < length rows
 grow_within rows k count free can =
@@ -162,12 +173,12 @@ loop-position-smaller c =
     let position = c.in-Some.position in
     let count = c.run_length-count.result in
     let can = subst (λ (xs : List PlanRow). IsSomeAnd (slice_get (rows_of xs) position) (CanGrowBy count c.loop-position.left)) c.deref-in-Some.ensures.value c.run_length-count.ensures.run.can in
-    let whole = with_items_is c.loop-position.after c.give_pages-left.new.rows (omega arith) in
+    let whole = with_items_is c.loop-position.after c.give_pages-left.new.rows (c.give_pages-left.auto.rows ∙ c.deref_mut.ensures.len) in
     let given = c.give_pages-left.ensures.given ∙ ap (λ (xs : List PlanRow). change_at (grown_row count) (rows_of xs) position) c.deref_mut.ensures.value in
     let less = demand-run (rows_of rows) position count c.loop-position.left can in
     let now = ap (λ (xs : List PlanRow). total_demand (rows_of xs)) whole ∙ ap total_demand given in
     let some = run_some (rows_of rows) position count c.loop-position.left can in
-    omega (arith, less, now, some)
+    subst (λ (n : ℕ). n < total_demand (rows_of rows)) (sym now) (fewer (total_demand (change_at (grown_row count) (rows_of rows) position)) _ count less some)
 
 pub push-requires-clause-some : goal.push-requires-clause-some
 push-requires-clause-some c = run_some (rows_of c.deref-in-Some.result.now) c.in-Some.position c.run_length-count.result c.loop-position.left c.run_length-count.ensures.run.can
@@ -180,7 +191,10 @@ push-requires-clause-few c =
     let can = subst (λ (xs : List PlanRow). IsSomeAnd (slice_get (rows_of xs) position) (CanGrowBy count c.loop-position.left)) c.deref-in-Some.ensures.value c.run_length-count.ensures.run.can in
     let new = c.give_pages-left.new.rows in
     let given = c.give_pages-left.ensures.given ∙ ap (λ (xs : List PlanRow). change_at (grown_row count) (rows_of xs) position) c.deref_mut.ensures.value in
-    omega (arith, c.loop-position.invariant.targets, target-run (rows_of rows) position count c.loop-position.left can, ap total_target given, few_targets new (omega arith))
+    let wide : length new ≡ length c.args.rows.now = c.give_pages-left.auto.rows ∙ ap (λ (xs : List PlanRow). length xs) c.deref_mut.ensures.value ∙ c.loop-position.invariant.few in
+    let more = ap total_target given ∙ target-run (rows_of rows) position count c.loop-position.left can in
+    few_moves (total_target (rows_of c.args.rows.now)) _ (total_target (rows_of new)) (length c.loop-position.plan) count c.loop-position.invariant.targets more
+    (few_targets new (subst (λ (n : ℕ). n ≤ 256) (sym wide) c.requires.few))
 
 pub loop-position-preserved : goal.loop-position-preserved
 loop-position-preserved c =
@@ -194,20 +208,23 @@ loop-position-preserved c =
     let start = pool_of c.args.free c.args.rows.now in
     let run = subst (λ (xs : List PlanRow). IsRun c.args.state c.args.thresholds.now tax (pool_of c.loop-position.left xs) position count) c.deref-in-Some.ensures.value c.run_length-count.ensures.run in
     let cost = subst (λ (xs : List PlanRow). IfSome (slice_get xs position) (λ row. frames ≡ frames_for_all count (row_of row))) c.deref_mut.ensures.value c.give_pages-left.ensures.frames in
-    let whole = with_items_is c.loop-position.after new (omega arith) in
+    let whole = with_items_is c.loop-position.after new (c.give_pages-left.auto.rows ∙ c.deref_mut.ensures.len) in
     let given = c.give_pages-left.ensures.given ∙ ap (λ (xs : List PlanRow). change_at (grown_row count) (rows_of xs) position) c.deref_mut.ensures.value in
     let after = pool-run c.loop-position.left frames count rows new position run.can cost given in
     let then = ap (λ (pool : Pool). pool_after pool (replicate count position)) c.loop-position.invariant.pool in
     let pushed : c.push.new.self ≡ moves ++ replicate count position = c.in_ok-push.ensures in
+    let more = ap total_target given ∙ target-run (rows_of rows) position count c.loop-position.left run.can ∙ ap (λ (n : ℕ). n + count) c.loop-position.invariant.targets in
+    let total = total_target (rows_of c.args.rows.now) in
     record {
-      pool = rw (whole, pushed) (after ∙ then ∙ sym (fold-append granted start moves (replicate count position)));
-      each_next = rw pushed (each-run c.args.state c.args.thresholds.now tax start (pool_of c.loop-position.left rows) moves position count c.loop-position.invariant.pool run c.loop-position.invariant.each_next);
-      rivals = rw whole c.give_pages-left.ensures.rivals;
+      pool = ap (λ (xs : List PlanRow). pool_of (c.loop-position.left - frames) xs) whole ∙ after ∙ then ∙ sym (fold-append granted start moves (replicate count position)) ∙ ap (λ (xs : List ℕ). pool_after start xs) (sym pushed);
+      each_next = subst (λ (xs : List ℕ). EachMove (λ before move. IsNextGrant c.args.state c.args.thresholds.now tax (pool_after start before) move) xs) (sym pushed)
+          (each-run c.args.state c.args.thresholds.now tax start (pool_of c.loop-position.left rows) moves position count c.loop-position.invariant.pool run c.loop-position.invariant.each_next);
+      rivals = subst (λ (xs : List PlanRow). AreRivals c.args.tax c.give_pages-left.new.rivals (rows_of xs)) (sym whole) c.give_pages-left.ensures.rivals;
       for_state = (λ none. c.loop-position.invariant.for_state.0 (c.give_pages-left.ensures.none.0 none), λ high. c.give_pages-left.ensures.none.1 (c.loop-position.invariant.for_state.1 high));
-      wanting = rw whole c.give_pages-left.ensures.wanting;
-      held = rw whole c.give_pages-left.ensures.held;
-      few = rw whole (omega arith);
-      targets = rw (whole, pushed) (omega (arith, length-append moves (replicate count position), length-replicate count position, target-run (rows_of rows) position count c.loop-position.left run.can, ap total_target given, c.loop-position.invariant.targets));
+      wanting = subst (λ (xs : List PlanRow). IsTracked Wanting c.args.tax c.give_pages-left.new.wanting (rows_of xs)) (sym whole) c.give_pages-left.ensures.wanting;
+      held = subst (λ (xs : List PlanRow). All (λ row. row.target ≤ row.held) xs) (sym whole) c.give_pages-left.ensures.held;
+      few = ap (λ (xs : List PlanRow). length xs) whole ∙ c.give_pages-left.auto.rows ∙ ap (λ (xs : List PlanRow). length xs) c.deref_mut.ensures.value ∙ c.loop-position.invariant.few;
+      targets = ap (λ (xs : List PlanRow). total_target (rows_of xs)) whole ∙ more ∙ longer total count position moves ∙ ap (λ (xs : List ℕ). total + length xs) (sym pushed);
     }
 
 -- ---- no guest can grow

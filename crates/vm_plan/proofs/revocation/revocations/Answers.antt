@@ -1,4 +1,4 @@
-use Rattle.std.proofs.Common.{◌≡◌, ◌++◌, ◌+◌, ◌<◌, ◌≤◌, ℕ, [], List, length, Option, Result, Ok, Err, IfErr, IsNone, IsSomeAnd, All, replicate, slice_get, ⊎_elim, sym, refl, ap, ◌∙◌, subst, arith}
+use Rattle.std.proofs.Common.{◌≡◌, ◌++◌, ◌+◌, ◌-◌, ◌^◌, ◌<◌, ◌≤◌, ℕ, [], List, length, Option, Result, Ok, Err, IfErr, IsNone, IsSomeAnd, All, replicate, slice_get, ⊎_elim, sym, refl, ap, ◌∙◌, subst, arith}
 use Rattle.std.proofs.lemmas.Grind.{fold-append}
 use Rattle.std.proofs.lemmas.List.{length-append, length-map, length-replicate, with_items_is}
 use Rattle.std.proofs.lemmas.Option.{slice_get_cases}
@@ -6,6 +6,7 @@ use Rattle.std.proofs.lemmas.Result.{IfOk-from_err}
 use Rattle.vm_tax.specs.Ratio.{Ratio, hundredths}
 use Rattle.vm_tax.specs.Offers.{IsLeast}
 use Rattle.vm_plan.specs.declared.row.PlanRow.{PlanRow}
+use Rattle.vm_plan.specs.Moves.{EachMove}
 use Rattle.vm_plan.specs.Row.{Row, revocable_ratios, change_at}
 use Rattle.vm_plan.specs.PlanRow.{row_of, rows_of}
 use Rattle.vm_plan.specs.Revocation.{rows_after, revoked_row, revocation_list, IsRevocationList}
@@ -32,6 +33,23 @@ none_yet moves n e = let empty = empty-length moves e in omega (arith, empty)
 
 none_more : (moves : List ℕ) (n m : ℕ) → moves ≡ [] → m ≡ n → m + length moves ≡ n
 none_more moves n m e same = let empty = empty-length moves e in omega (arith, empty, same)
+
+-- sums, apart from all that is known in a turn
+few_moves : (start after new moves count : ℕ) → after + moves ≡ start → new + count ≡ after → start ≤ 67108864 → moves + count < 2 ^ 32
+few_moves start after new moves count e f few = omega arith
+
+fewer : (left taken count : ℕ) → taken ≡ count → 0 < count → count ≤ left → left - taken < left
+fewer left taken count e some within = omega arith
+
+turns_left : (moves : List ℕ) (count position left taken wanted : ℕ) → taken ≡ count → count ≤ left → length moves + left ≡ wanted
+    → length (moves ++ replicate count position) + (left - taken) ≡ wanted
+turns_left moves count position left taken wanted e within turns =
+    omega (arith, length-append moves (replicate count position), length-replicate count position)
+
+targets_left : (moves : List ℕ) (count position new old start : ℕ) → new + count ≡ old → old + length moves ≡ start
+    → new + length (moves ++ replicate count position) ≡ start
+targets_left moves count position new old start e f =
+    omega (arith, length-append moves (replicate count position), length-replicate count position)
 
 fall_within : (rows : List PlanRow) (k count : ℕ) → IsSomeAnd (slice_get (rows_of rows) k) (CanLose count) → k < length rows
 fall_within rows k count can =
@@ -120,7 +138,7 @@ push-requires-clause-few c =
     let position = c.in-Some.position in
     let count = c.fall_length-count.result in
     let can = subst (λ (xs : List PlanRow). IsSomeAnd (slice_get (rows_of xs) position) (CanLose count)) c.deref.ensures.value c.fall_length-count.ensures.run.can in
-    omega (arith, c.loop-left.invariant.targets, target-fall (rows_of rows) position count can, few_targets c.args.rows.now c.requires.few)
+    few_moves (total_target (rows_of c.args.rows.now)) _ _ (length c.loop-left.plan) count c.loop-left.invariant.targets (target-fall (rows_of rows) position count can) (few_targets c.args.rows.now c.requires.few)
 
 pub returns-in_err-push : goal.returns-in_err-push
 returns-in_err-push c =
@@ -142,7 +160,7 @@ overflow_sub-left c = subst (λ (n : ℕ). n ≤ c.loop-left.left) (sym c.from-l
 pub loop-left-smaller : goal.loop-left-smaller
 loop-left-smaller c =
     let some = fall_some (rows_of c.deref.result.now) c.in-Some.position c.fall_length-count.result c.fall_length-count.ensures.run.can in
-    omega (arith, some, c.fall_length-count.ensures.wanted, c.from-left.ensures)
+    fewer c.loop-left.left c.from-left.result c.fall_length-count.result c.from-left.ensures some c.fall_length-count.ensures.wanted
 
 pub loop-left-preserved : goal.loop-left-preserved
 loop-left-preserved c =
@@ -152,20 +170,22 @@ loop-left-preserved c =
     let position = c.in-Some.position in
     let count = c.fall_length-count.result in
     let new = c.take_pages.new.rows in
-    let whole = with_items_is c.loop-left.after new (omega arith) in
+    let whole = with_items_is c.loop-left.after new (c.take_pages.auto.rows ∙ c.deref_mut.ensures.len) in
     let pushed : c.push.new.self ≡ moves ++ replicate count position = c.in_ok-push.ensures in
     let fall = subst (λ (xs : List PlanRow). IsFall tax (rows_of xs) position count) c.deref.ensures.value c.fall_length-count.ensures.run in
     let taken = c.take_pages.ensures.taken ∙ ap (λ (xs : List PlanRow). change_at (lowered_row count) (rows_of xs) position) c.deref_mut.ensures.value in
     let after = taken ∙ rows-fall (rows_of c.loop-left.after.items) position count fall.can ∙ ap (λ (xs : List Row). rows_after xs (replicate count position)) c.loop-left.invariant.rows in
-    let longer = length-append moves (replicate count position) in
-    let long = length-replicate count position in
-    let lower = target-fall (rows_of c.loop-left.after.items) position count fall.can in
+    let lower = ap (λ (n : ℕ). n + count) (ap total_target taken) ∙ target-fall (rows_of c.loop-left.after.items) position count fall.can in
+    let total = total_target (rows_of new) in
     record {
-      rows = rw (whole, pushed) (after ∙ sym (fold-append (change_at revoked_row) rows moves (replicate count position)));
-      tracked = rw whole c.take_pages.ensures.tracked;
-      each_least = rw pushed (each-fall tax rows (rows_of c.loop-left.after.items) moves position count c.loop-left.invariant.rows fall c.loop-left.invariant.each_least);
-      turns = rw pushed (omega (arith, longer, long, c.loop-left.invariant.turns, c.fall_length-count.ensures.wanted, c.from-left.ensures));
-      targets = rw (whole, pushed) (omega (arith, longer, long, lower, ap total_target taken, c.loop-left.invariant.targets));
+      rows = ap (λ (xs : List PlanRow). rows_of xs) whole ∙ after ∙ sym (fold-append (change_at revoked_row) rows moves (replicate count position)) ∙ ap (λ (xs : List ℕ). rows_after rows xs) (sym pushed);
+      tracked = subst (λ (xs : List PlanRow). IsTracked Revocable c.args.tax c.take_pages.new.winners (rows_of xs)) (sym whole) c.take_pages.ensures.tracked;
+      each_least = subst (λ (xs : List ℕ). EachMove (λ before move. IsLeast (revocable_ratios tax (rows_after rows before)) move) xs) (sym pushed)
+          (each-fall tax rows (rows_of c.loop-left.after.items) moves position count c.loop-left.invariant.rows fall c.loop-left.invariant.each_least);
+      turns = ap (λ (xs : List ℕ). length xs + (c.loop-left.left - c.from-left.result)) pushed
+          ∙ turns_left moves count position c.loop-left.left c.from-left.result c.args.wanted c.from-left.ensures c.fall_length-count.ensures.wanted c.loop-left.invariant.turns;
+      targets = ap (λ (xs : List PlanRow). total_target (rows_of xs) + length c.push.new.self) whole ∙ ap (λ (xs : List ℕ). total + length xs) pushed
+          ∙ targets_left moves count position total _ _ lower c.loop-left.invariant.targets;
     }
 
 -- ---- none is wanted

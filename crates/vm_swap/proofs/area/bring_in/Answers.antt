@@ -23,3 +23,6 @@ returns-clause-frame c =
           let none = ap (λ o. unwrap_or (first_of o (bytes_of few)) zero_bytes) w.in-None.ensures in
           w.frame-is ∙ w.set_log.ensures ∙ rw (w.unwrap_or.ensures, w.new.ensures) (λ i. record { number = c.args.frame.now.number; bytes = (bytes ∙ none) i })
     ])
+
+pub returns-clause-whole : goal.returns-clause-whole
+returns-clause-whole c = c.discard.ensures.removed

@@ -36,3 +36,20 @@ invariant_of-result c =
       room_inflated = c.in_ok-served.ensures.inflated;
       room_deflated = c.in_ok-served.ensures.deflated;
     }
+
+pub returns-clause-device : goal.returns-clause-device
+returns-clause-device c =
+    let sets = c.in_ok-balloon.ensures in
+    let queues = c.in_ok-inflates.ensures in
+    λ i. record {
+      size = c.args.size;
+      buffers = c.args.buffers;
+      balloon = sets.balloon i;
+      early = sets.early i;
+      inflates = (queues.inflates i).buffers;
+      deflates = (queues.deflates i).buffers;
+      statistics = (queues.reports i).list;
+      num_pages = 0;
+      actual = 0;
+      stats = (queues.reports i).stats;
+    }

@@ -1,4 +1,4 @@
-use Rattle.std.proofs.Common.{arith, ap, ◌∙◌, ◌+◌, ◌≡◌, ℕ, subst, sym, List}
+use Rattle.std.proofs.Common.{arith, ap, ◌∙◌, ◌+◌, ◌≡◌, ℕ, length, subst, sym, List}
 use Rattle.std.proofs.lemmas.List.{nil_from_length}
 use Rattle.std.specs.Prelude.{nat_eq}
 use Rattle.std.specs.List.{All}
@@ -6,6 +6,7 @@ use Rattle.vm_board.specs.States.{PassState}
 use Rattle.vm_board.specs.Sums.{total, times, one_if}
 use Rattle.vm_board.specs.Hands.{out}
 use Rattle.vm_board.specs.Boards.{IsOver}
+use Rattle.vm_board.proofs.Counts.{first_taken, more_weight, one_taken, some_weight, some_words}
 use Rattle.vm_board.proofs.Sums.{total_snoc, total_append, all_split}
 use Rattle.vm_board.proofs.Tickets.{joins}
 use Rattle.vm_board.proofs.board.Board.merge.Goals as goal
@@ -16,11 +17,12 @@ loop-other-init g c = let b = c.args.self.now in let items = c.in-Some.ensures.i
     let len = c.requires.passes.0 in let cases = c.in-Some.ensures.cases in let weight = seated.weight in (
       ap (λ p. p.board) c.first.view_is ∙ mine.0.0,
       omega arith,
-      omega arith,
+      some_weight first.me.0.weight seated.weight,
       seated.ends ∙ ap (λ p. p.over) c.first.view_is ∙ mine.1,
       ap (λ p. p.number) c.first.view_is ∙ mine.0.1,
       (λ n. let f : PassState → ℕ = λ p. times n p.drawn in let whole : total f c.args.passes.items ≡ total f c.pop.new.self.items + f c.in-Some.first = ap (total f) items ∙ total_snoc f c.pop.new.self.items c.in-Some.first in
-          let drew : times n first.me.0.drawn ≡ times n c.in-Some.first.drawn = ap (λ p. times n p.drawn) c.first.view_is in omega arith),
+          let drew : times n first.me.0.drawn ≡ times n c.in-Some.first.drawn = ap (λ p. times n p.drawn) c.first.view_is in
+          first_taken (total f c.args.passes.items) (total f c.pop.new.self.items) (f c.in-Some.first) (times n first.me.0.drawn) whole drew),
       both.0,
     )
 
@@ -31,7 +33,7 @@ join_seat-requires g c = let t = c.self.inside.table.shared in let laid = c.self
       is.0 ∙ here,
       ap (λ p. p.board) c.other.view_is ∙ mine.0.0 ∙ here,
       seated.slots ∙ ap out number,
-      (let words = laid.words in omega arith),
+      some_words t.table_id.words (length t.key.jobs.value.items) laid.words,
       joins g.J.Work.ready g.J.Work.pieces g.J.Work.piece t.key.jobs.value.items t.key.seats seat.id seat.me.0 x.id x.me.0 is.2 is.3 (seated.ends ∙ ap (λ p. p.over) c.other.view_is ∙ mine.1) is.4 number,
     )
 
@@ -41,13 +43,14 @@ loop-other-preserved g c = let b = c.args.self.now in let is = c.loop-other.inva
     let weight : c.join_seat.new.seat.me.0.weight ≡ seat.me.0.weight + x.me.0.weight = ap (λ m. m.0.weight) now in let cases = c.in-Some-pop.ensures.cases in let whole = is.1 in (
       c.join_seat.ensures.0 ∙ is.0,
       omega arith,
-      omega arith,
+      more_weight c.join_seat.new.seat.me.0.weight seat.me.0.weight x.me.0.weight weight is.2,
       ap (λ m. m.0.over) now ∙ is.3,
       ap (λ m. m.0.number) now ∙ is.4,
       (λ n. let f : PassState → ℕ = λ p. times n p.drawn in let all_of : total f c.loop-other.passes.items ≡ total f c.pop-in-loop-other.new.self.items + f c.in-Some-pop.other = ap (total f) items ∙ total_snoc f c.pop-in-loop-other.new.self.items c.in-Some-pop.other in
           let theirs : times n x.me.0.drawn ≡ times n c.in-Some-pop.other.drawn = ap (λ p. times n p.drawn) c.other.view_is in
           let drew : times n c.join_seat.new.seat.me.0.drawn ≡ times n seat.me.0.drawn + times n x.me.0.drawn = ap (λ m. times n m.0.drawn) now ∙ total_append (λ (m : ℕ). one_if (nat_eq m n)) seat.me.0.drawn x.me.0.drawn in
-          let was = is.5 n in omega arith),
+          one_taken (total f (c.args.passes.items)) (total f c.loop-other.passes.items) (total f c.pop-in-loop-other.new.self.items) (f c.in-Some-pop.other) (times n x.me.0.drawn) (times n seat.me.0.drawn)
+          (times n c.join_seat.new.seat.me.0.drawn) all_of theirs drew (is.5 n)),
       both.0,
     )
 

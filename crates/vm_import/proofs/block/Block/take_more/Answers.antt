@@ -1,8 +1,11 @@
-use Rattle.std.proofs.Common.{◌≡◌, ◌∙◌, ℕ, ◌+◌, ◌-◌, ◌≤◌, List, length, take, drop, Option, refl, ap, subst, sym, arith, rules}
+use Rattle.std.proofs.Common.{◌≡◌, ◌∙◌, ℕ, ◌+◌, ◌-◌, ◌≤◌, List, length, take, drop, Option, Some, None, Result, Ok, refl, ap, subst, sym, arith}
 use borrow.Author.Tests.{ltb-false}
 use Rattle.std.proofs.lemmas.List.{length-drop, length-take-le, with_items_is}
 use Rattle.std.specs.Io.KnownBytes.{Consumes}
+use Rattle.std.specs.Option.{SomeIff}
+use Rattle.std.specs.Result.{result_ok}
 use Rattle.std.specs.Vec.{with_items}
+use Rattle.vm_import.specs.declared.faults.LogError.{LogError}
 use Rattle.vm_import.specs.Waiting.{IsTaken, Waiting}
 use Rattle.vm_import.proofs.WaitingLemmas.{Waiting-same, front_and_more, length_waiting, taken_more}
 use Rattle.vm_import.proofs.block.Block.take_more.Goals as goal
@@ -48,6 +51,15 @@ same_waits block moved more items start end count total sum old view is counted 
     let sum_is : sum ≡ total = omega arith in
     Waiting-same _ _ _ _ (ap (λ n. take n (drop 0 items)) length_is ∙ ap (λ l. take (end - start) (drop 0 l)) is ∙ read ∙ move) sum_is ∙ view
 
+-- a sum that is no error
+sum_taken : (checked : Option ℕ) (passed : Result ℕ LogError) (taken sum : ℕ) (P : Type 0) → SomeIff checked P sum
+    → checked ≡ result_ok passed → passed ≡ Ok taken → taken ≡ sum
+sum_taken None passed taken sum P iff same is = absurd (let none : ◌≡◌ {A = Option ℕ} None (Some taken) = same ∙ ap result_ok is in cc)
+sum_taken (Some x) passed taken sum P iff same is =
+    let some : ◌≡◌ {A = Option ℕ} (Some x) (Some taken) = same ∙ ap result_ok is in
+    let inner : x ≡ taken = cc in
+    sym inner ∙ iff.1
+
 front_moved : (n start : ℕ) (moved slice block : List ℕ) → take n moved ≡ take n (drop start slice) → slice ≡ block → take n moved ≡ take n (drop start block)
 front_moved n start moved slice block front is = front ∙ ap (λ l. take n (drop start l)) is
 
@@ -63,7 +75,7 @@ returns-clause-taken g c =
     front_moved waits c.self.inside.start moved c.deref_mut.result.now block.items c.move_to_front.ensures c.deref_mut.ensures.value in
     let read : take waits more ≡ take waits moved =
     c.in_ok-count.ensures.front ∙ ap (take waits) (c.deref_mut-2.ensures.value ∙ with_items_is block moved moved_length) in
-    let sum : c.in_ok-taken.taken ≡ c.self.inside.taken + c.in_ok-count.count = search rules in
+    let sum = sum_taken c.checked_add.result c.ok_or.result c.in_ok-taken.taken _ _ c.checked_add.ensures c.ok_or.ensures.ok_part c.in_ok-taken.was in
     moved_and_read block.items moved more (with_items (with_items block moved) more).items c.self.inside.start c.self.inside.end c.in_ok-count.count c.self.inside.taken c.in_ok-taken.taken c.args.self.now
     (g.R.Source.remaining c.args.source.now) (g.R.Source.remaining c.read_behind.new.source) c.self.view_is (with_items_is (with_items block moved) more more_length) sum move read
     (omega (arith, c.in_ok-count.ensures.bound, c.read_behind.auto.bytes)) c.in_ok-count.ensures.read
@@ -95,7 +107,7 @@ returns-clause-counted g c =
     let more = c.read_behind.new.bytes in
     let more_length : length more ≡ block.len = c.read_behind.auto.bytes ∙ c.deref_mut-2.ensures.len in
     let bound = c.in_ok-count.ensures.bound in
-    let sum : c.in_ok-taken.taken ≡ c.self.inside.taken + c.in_ok-count.count = search rules in
+    let sum = sum_taken c.checked_add.result c.ok_or.result c.in_ok-taken.taken _ _ c.checked_add.ensures c.ok_or.ensures.ok_part c.in_ok-taken.was in
     counts block.items (with_items (with_items block moved) more).items c.self.inside.start c.self.inside.end (c.self.inside.end - c.self.inside.start + c.in_ok-count.count) c.self.inside.taken c.in_ok-taken.taken c.args.self.now
     c.self.view_is c.self.invariant.ordered c.self.invariant.within (omega (arith, c.read_behind.auto.bytes, ap length (with_items_is (with_items block moved) more more_length))) (omega arith)
 
@@ -111,7 +123,7 @@ returns-clause-none g c = λ none.
     front_moved waits c.self.inside.start moved c.deref_mut.result.now block.items c.move_to_front.ensures c.deref_mut.ensures.value in
     let read : take waits more ≡ take waits moved =
     c.in_ok-count.ensures.front ∙ ap (take waits) (c.deref_mut-2.ensures.value ∙ with_items_is block moved moved_length) in
-    let sum : c.in_ok-taken.taken ≡ c.self.inside.taken + c.in_ok-count.count = search rules in
+    let sum = sum_taken c.checked_add.result c.ok_or.result c.in_ok-taken.taken _ _ c.checked_add.ensures c.ok_or.ensures.ok_part c.in_ok-taken.was in
     let nothing : c.in_ok-count.count ≡ 0 = omega (arith, ltb-false _ _ none) in
     same_waits block.items moved more (with_items (with_items block moved) more).items c.self.inside.start c.self.inside.end c.in_ok-count.count c.self.inside.taken c.in_ok-taken.taken c.args.self.now
     c.self.view_is (with_items_is (with_items block moved) more more_length) sum move read nothing

@@ -1,7 +1,13 @@
-use Rattle.std.proofs.Common.{◌++◌, ◌∷◌, [], ap, ◌∙◌}
+use Rattle.std.proofs.Common.{◌++◌, ◌∷◌, [], Err, ap, ◌∙◌}
+use Rattle.vm_trace.specs.declared.error.PushError.TheVariants.{Fault}
 use Rattle.vm_trace.specs.Entries.{bytes_of, steps_of}
 use Rattle.vm_trace.proofs.Kept.{kept_after, kept_one, steps_after, steps_more}
+use Rattle.vm_trace.proofs.Passed.{given_err}
 use Rattle.vm_trace.proofs.trace.Trace.push_text.Goals as goal
+
+pub returns-in_err-entry-clause-fault : goal.returns-in_err-entry-clause-fault
+returns-in_err-entry-clause-fault c = λ fault is.
+    c.in_err-entry.ensures.fault fault (ap Err (given_err c.from_residual.result c.in_err-entry.field-0.0 (Fault fault) c.from_residual.ensures.1 is))
 
 pub invariant_of-self-in_default : goal.invariant_of-self-in_default
 invariant_of-self-in_default c =
