@@ -1,3 +1,4 @@
+pub mod AllottedLemmas
 pub mod BoundaryLemmas
 pub mod ByteLemmas
 pub mod ChangeLemmas

@@ -1,0 +1,25 @@
+use Rattle.std.proofs.Common.{◌+◌, ◌≤◌, subst, sym, ap, arith}
+use Rattle.vm_guest.specs.Good.{IsSound}
+use Rattle.vm_guest.specs.Memory.{Memory}
+use Rattle.vm_guest.specs.Parts.{record_of}
+use Rattle.vm_guest.specs.Record.{GuestRecord}
+use Rattle.vm_guest.proofs.AllottedLemmas.{holding-guest, with_more-sound}
+use Rattle.vm_guest.proofs.guest.Guest.add_spares.Goals as goal
+
+pub invariant_of-self : goal.invariant_of-self
+invariant_of-self c =
+    let g = record_of c.self.inside.parts in
+    let is = c.self.invariant in
+    let sound = is.fit.sound in
+    let memory = sound.memory in
+    let allotment = sound.allotment in
+    let fewer = rw (← c.self.view_is) at c.requires.few in
+    let few : g.memory.held + c.args.count ≤ g.config.size = omega (arith, fewer, memory.few_held, allotment.target_to, allotment.cap) in
+    holding-guest c.self.inside c.add_spares.new.self
+    (subst (λ (m : Memory). IsSound (record g { memory = m })) (sym c.add_spares.ensures.memory) (with_more-sound g c.args.count few sound))
+    (omega (arith, c.add_spares.ensures.capacity)) is
+
+pub returns-clause-record : goal.returns-clause-record
+returns-clause-record c =
+    let g = record_of c.self.inside.parts in
+    rw (← c.self.view_is) (ap {B = GuestRecord} (λ (m : Memory). record g { memory = m }) c.add_spares.ensures.memory)

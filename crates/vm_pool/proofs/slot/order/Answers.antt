@@ -1,0 +1,10 @@
+use Rattle.std.proofs.Common.{◌≡◌, subst, sym, ap}
+use Rattle.vm_guest.specs.Boundary.{ordered}
+use Rattle.vm_pool.specs.declared.slot.Slot.{Slot}
+use Rattle.vm_pool.specs.declared.slot.Slot.TheVariants.{Running}
+use Rattle.vm_pool.specs.Slots.{slot_changed}
+use Rattle.vm_pool.proofs.slot.order.Goals as goal
+
+pub returns-in-Running : goal.returns-in-Running
+returns-in-Running c =
+    subst (λ (s : Slot). Running c.order.new.self ≡ slot_changed (λ g. ordered g c.args.blocked) s) (sym c.in-Running.is) (ap Running c.order.ensures)

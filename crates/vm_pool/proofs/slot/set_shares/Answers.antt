@@ -1,0 +1,10 @@
+use Rattle.std.proofs.Common.{◌≡◌, subst, sym, ap}
+use Rattle.vm_guest.specs.Boundary.{with_shares}
+use Rattle.vm_pool.specs.declared.slot.Slot.{Slot}
+use Rattle.vm_pool.specs.declared.slot.Slot.TheVariants.{Running}
+use Rattle.vm_pool.specs.Slots.{slot_changed}
+use Rattle.vm_pool.proofs.slot.set_shares.Goals as goal
+
+pub returns-in-Running : goal.returns-in-Running
+returns-in-Running c =
+    subst (λ (s : Slot). Running c.set_shares.new.self ≡ slot_changed (λ g. with_shares g c.args.shares) s) (sym c.in-Running.is) (ap Running c.set_shares.ensures)
