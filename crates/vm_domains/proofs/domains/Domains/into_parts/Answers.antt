@@ -7,3 +7,9 @@ returns-clause-names c = rw (← c.self.view_is) (sym (names_of-domains_of c.sel
 
 pub returns-clause-configs : goal.returns-clause-configs
 returns-clause-configs c = rw (← c.self.view_is) (sym (configs_of-domains_of c.self.inside.names c.self.inside.specs.items c.self.invariant.paired))
+
+pub returns-clause-parts : goal.returns-clause-parts
+returns-clause-parts c = c.self.view_is
+
+pub returns-clause-paired : goal.returns-clause-paired
+returns-clause-paired c = c.self.invariant
