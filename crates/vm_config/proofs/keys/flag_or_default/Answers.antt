@@ -21,7 +21,8 @@ returns c =
     let chosen = λ (d : Option Data). flag_or d c.args.default in
     let flag : c.match-member.flag ≡ chosen (seen c.member.result) =
     elim c.match-member.branch as (λ _. c.match-member.flag ≡ chosen (seen c.member.result)) [
-      | in-Some w ↦ w.flag-is ∙ w.ok_or-flag.ensures.value ∙ kind_or w.truth.result ∙ ap of_kind w.truth.ensures ∙ ap (λ found. chosen (seen found)) (sym w.in-Some.is)
+      | in-Some w ↦ w.flag-is ∙ w.ok_or-flag.ensures.value ∙ kind_or w.truth.result ∙ ap of_kind w.truth.ensures
+          ∙ ap (λ found. chosen (seen found)) (sym w.in-Some.is)
       | in-None w ↦ w.flag-is ∙ ap (λ found. chosen (seen found)) (sym w.in-None.is)
     ] in
     c.at.ensures ∙ ap (at c.args.part c.args.key) (flag ∙ ap chosen there)

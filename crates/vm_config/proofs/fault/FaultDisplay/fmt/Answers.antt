@@ -1,4 +1,4 @@
-use Rattle.std.proofs.Common.{◌≡◌, sym, subst}
+use Rattle.std.proofs.Common.{sym, subst}
 use Rattle.std.specs.Fmt.{DisplaysOnOk}
 use Rattle.vm_config.specs.FaultTexts.{report_at}
 use Rattle.vm_config.specs.declared.error.ConfigError.{ConfigError}
