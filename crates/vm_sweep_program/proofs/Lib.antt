@@ -1,4 +1,5 @@
 mod RangeLemmas
+mod ReadingLemmas
 mod StatusLemmas
 pub mod ReadLemmas
 pub mod TakenLemmas

@@ -1,10 +1,11 @@
-use Rattle.std.proofs.Common.{◌≡◌, ◌∙◌, ◌≤◌, refl, subst, arith}
+use Rattle.std.proofs.Common.{◌≡◌, ◌∙◌, ◌<◌, ◌≤◌, ◌^◌, refl, subst, arith}
 use Rattle.std.specs.Io.KnownBytes.{Appends}
 use Rattle.vm_import.specs.Reading.{Place, Stays, beginning, left, length_in_all}
 use Rattle.vm_streams.specs.Streams.{AppendsFront}
 use Rattle.vm_import.specs.Drafts.{DraftView, with_text}
 use Rattle.vm_import.specs.Failing.{FailsToSkip, Skips}
 use Rattle.vm_import.specs.Imports.{Fails}
+use Rattle.vm_import.specs.Progress.{IsShort}
 use Rattle.vm_import.specs.Settings.{settings_of}
 use Rattle.vm_import.specs.Texts.{tail_of}
 use Rattle.vm_import.specs.declared.outcome.ImportError.TheVariants.{Memory, Read, Write}
@@ -12,6 +13,9 @@ use Rattle.vm_import.proofs.FailedLemmas.{is_error, kept_by, not_newly, since_ea
 use Rattle.vm_import.proofs.ImportLemmas.{fails-skipping, fails-taking, front-stopped, front-unfinished, front-unwritten, guest-written, untouched}
 use Rattle.vm_import.proofs.ReadLemmas.{passed-on}
 use Rattle.vm_import.proofs.import.import_log.Goals as goal
+
+steps_fit : (draft : DraftView) → IsShort draft → draft.steps < 2 ^ 63
+steps_fit draft short = let few = short.steps in omega (arith, few)
 
 pub returns-in_err-skip-clause-failed : goal.returns-in_err-skip-clause-failed
 returns-in_err-skip-clause-failed g c =
@@ -134,3 +138,6 @@ returns-clause-reader_failed g c =
 pub returns-clause-writer_failed : goal.returns-clause-writer_failed
 returns-clause-writer_failed g c =
     λ newly. absurd (not_newly (g.W.Sink.has_failed c.args.writer.now) (g.W.Sink.has_failed c.write.new.writer) (c.in_ok-write.ensures.stays ∙ kept_by (g.W.Sink.has_failed c.take_intervals.new.writer ≡ g.W.Sink.has_failed c.args.writer.now) _ Write c.in_ok-taken.ensures.writes) newly)
+
+pub finish-requires : goal.finish-requires
+finish-requires g c = steps_fit c.take_intervals.new.progress.draft c.in_ok-taken.ensures.short

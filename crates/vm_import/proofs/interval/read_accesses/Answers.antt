@@ -1,4 +1,4 @@
-use Rattle.std.proofs.Common.{◌≡◌, ◌∙◌, ◌<◌, ◌==◌, inr, List, [], ◌∷◌, ◌++◌, None, Option, length, sym, subst, arith, length-append}
+use Rattle.std.proofs.Common.{◌≡◌, ◌∙◌, ℕ, ◌+◌, ◌<◌, ◌≤◌, ◌==◌, inr, List, [], ◌∷◌, ◌++◌, None, Option, length, sym, subst, arith, length-append}
 use Rattle.vm_import.specs.declared.access.Access.{Access}
 use Rattle.vm_import.specs.Reading.{Gives, left, length_in_all}
 use Rattle.vm_import.specs.Errors.{error_of}
@@ -9,6 +9,15 @@ use Rattle.vm_import.proofs.ComposedLemmas.{Stays-then}
 use Rattle.vm_import.proofs.LineLemmas.{kept_so}
 use Rattle.vm_import.proofs.ReadLemmas.{err-same, fails, goes-on, grows-more, passed-on, passes-limit, positive, short-within, told, within}
 use Rattle.vm_import.proofs.interval.read_accesses.Goals as goal
+
+same_count : (count all : ℕ) → all ≤ count → count ≤ all → count ≡ all
+same_count count all least most = omega arith
+
+is_short : (accesses : List Access) (count all : ℕ) → length accesses ≡ count → count < all → length accesses < all
+is_short accesses count all is below = omega arith
+
+one_longer : (accesses : List Access) (access : Access) (count : ℕ) → length accesses ≡ count → length (accesses ++ access ∷ []) ≡ count + 1
+one_longer accesses access count is = omega (arith, length-append accesses (access ∷ []))
 
 pub returns-in_err-access-clause-failed : goal.returns-in_err-access-clause-failed
 returns-in_err-access-clause-failed g c =
@@ -33,7 +42,7 @@ returns-in_err-access-clause-failed g c =
 pub returns-in-Some-2-clause-ends : goal.returns-in-Some-2-clause-ends
 returns-in-Some-2-clause-ends g c = λ before way.
     let there = c.loop-count.invariant.goes before way in
-    let short : length there.0 < c.args.settings.now.interval = omega (arith, there.1) in
+    let short = is_short there.0 c.loop-count.count c.args.settings.now.interval there.1 c.loop-count-test.true in
     passes-limit (settings_of c.args.settings.now) before c.args.number c.args.settings.now.interval_in_range.0
     (left c.args.log.now (g.R.Source.remaining c.args.reader.now)) (left c.loop-count.log (g.R.Source.remaining c.loop-count.reader))
     (left c.next_access.new.self (g.R.Source.remaining c.next_access.new.source)) there.0 c.loop-count.progress.set
@@ -64,9 +73,9 @@ loop-count-preserved g c =
     record {
       goes = λ before way.
           let there = c.loop-count.invariant.goes before way in
-          let short : length there.0 < c.args.settings.now.interval = omega (arith, there.1) in (
+          let short = is_short there.0 c.loop-count.count c.args.settings.now.interval there.1 c.loop-count-test.true in (
             there.0 ++ c.in-Some.access ∷ [],
-            omega (arith, there.1, length-append there.0 (c.in-Some.access ∷ [])),
+            one_longer there.0 c.in-Some.access c.loop-count.count there.1,
             goes-on (settings_of c.args.settings.now) before c.args.number c.args.settings.now.interval_in_range.0
                 (left c.args.log.now (g.R.Source.remaining c.args.reader.now)) (left c.loop-count.log (g.R.Source.remaining c.loop-count.reader))
                 (left c.next_access.new.self (g.R.Source.remaining c.next_access.new.source)) there.0 c.loop-count.progress.set
@@ -89,3 +98,9 @@ loop-count-preserved g c =
           kept_so (g.R.Source.has_failed c.next_access.new.source ≡ g.R.Source.has_failed c.loop-count.reader) _ c.in_ok-access.ensures.stays
           ∙ c.loop-count.invariant.stays;
     }
+
+pub returns-clause-ends : goal.returns-clause-ends
+returns-clause-ends g c = λ before way.
+    let there = c.loop-count.invariant.goes before way in
+    let all = same_count c.loop-count.count c.args.settings.now.interval c.loop-count-test.false c.loop-count.auto.count-end in
+    (there.0, there.1 ∙ all, there.2)

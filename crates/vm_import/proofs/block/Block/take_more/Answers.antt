@@ -1,4 +1,4 @@
-use Rattle.std.proofs.Common.{◌≡◌, ◌∙◌, ℕ, ◌+◌, ◌-◌, ◌≤◌, List, length, take, drop, Option, Some, None, Result, Ok, refl, ap, subst, sym, arith}
+use Rattle.std.proofs.Common.{◌≡◌, ◌∙◌, ℕ, ◌+◌, ◌-◌, ◌≤◌, false, nat_lt, List, length, take, drop, Option, Some, None, Result, Ok, refl, ap, subst, sym, arith}
 use borrow.Author.Tests.{ltb-false}
 use Rattle.std.proofs.lemmas.List.{length-drop, length-take-le, with_items_is}
 use Rattle.std.specs.Io.KnownBytes.{Consumes}
@@ -50,6 +50,9 @@ same_waits block moved more items start end count total sum old view is counted 
     let length_is : end - start + count - 0 ≡ end - start = omega arith in
     let sum_is : sum ≡ total = omega arith in
     Waiting-same _ _ _ _ (ap (λ n. take n (drop 0 items)) length_is ∙ ap (λ l. take (end - start) (drop 0 l)) is ∙ read ∙ move) sum_is ∙ view
+
+none_read : (count : ℕ) → nat_lt 0 count ≡ false → count ≡ 0
+none_read count none = omega (arith, ltb-false 0 count none)
 
 -- a sum that is no error
 sum_taken : (checked : Option ℕ) (passed : Result ℕ LogError) (taken sum : ℕ) (P : Type 0) → SomeIff checked P sum
@@ -124,6 +127,9 @@ returns-clause-none g c = λ none.
     let read : take waits more ≡ take waits moved =
     c.in_ok-count.ensures.front ∙ ap (take waits) (c.deref_mut-2.ensures.value ∙ with_items_is block moved moved_length) in
     let sum = sum_taken c.checked_add.result c.ok_or.result c.in_ok-taken.taken _ _ c.checked_add.ensures c.ok_or.ensures.ok_part c.in_ok-taken.was in
-    let nothing : c.in_ok-count.count ≡ 0 = omega (arith, ltb-false _ _ none) in
+    let nothing : c.in_ok-count.count ≡ 0 = none_read c.in_ok-count.count none in
     same_waits block.items moved more (with_items (with_items block moved) more).items c.self.inside.start c.self.inside.end c.in_ok-count.count c.self.inside.taken c.in_ok-taken.taken c.args.self.now
     c.self.view_is (with_items_is (with_items block moved) more more_length) sum move read nothing
+
+pub returns-clause-end : goal.returns-clause-end
+returns-clause-end g c = λ none. c.in_ok-count.ensures.end (none_read c.in_ok-count.count none)

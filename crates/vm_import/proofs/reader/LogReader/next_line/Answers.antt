@@ -1,5 +1,7 @@
-use Rattle.std.proofs.Common.{◌≡◌, ◌∙◌, ◌+◌, ◌<◌, inr, length, Ok, Err, sym, ap, rules}
+use Rattle.std.proofs.Common.{◌≡◌, ◌∙◌, ℕ, ◌+◌, ◌<◌, inr, length, Result, Ok, Err, sym, ap, rules}
 use Rattle.std.proofs.lemmas.Result.{IfOk-from_err}
+use Rattle.vm_import.specs.declared.faults.LineFault.{LineFault}
+use Rattle.vm_import.specs.declared.faults.LogError.{LogError}
 use Rattle.vm_import.specs.declared.faults.LogError.TheVariants.{Line, Read, TooLong}
 use Rattle.vm_import.specs.declared.step.Step.TheVariants.{Ended, Found}
 use Rattle.vm_import.specs.Lines.{line_of, process_of}
@@ -10,6 +12,15 @@ use Rattle.vm_import.proofs.BlockStepLemmas.{at, begins_with_fault, goes_on, goe
 use Rattle.vm_import.proofs.LineLemmas.{ended_found, ended_passed, err_no_value, failed_or_stays, kept_so, length_at, line_is_not, lines_small, long_at, long_then, no_error, no_line, no_value, same_error, stays_then}
 use Rattle.vm_import.proofs.WaitingLemmas.{Stays-then}
 use Rattle.vm_import.proofs.reader.LogReader.next_line.Goals as goal
+
+-- what an error of a line says
+line_number : {A : Type 0} (number other : ℕ) (fault told : LineFault)
+    → ◌≡◌ {A = Result A LogError} (Err (Line number fault)) (Err (Line other told)) → number ≡ other
+line_number number other fault told same = cc
+
+line_fault : {A : Type 0} (number other : ℕ) (fault told : LineFault)
+    → ◌≡◌ {A = Result A LogError} (Err (Line number fault)) (Err (Line other told)) → fault ≡ told
+line_fault number other fault told same = cc
 
 pub returns-then-is_empty-clause-step : goal.returns-then-is_empty-clause-step
 returns-then-is_empty-clause-step g c =
@@ -24,8 +35,8 @@ pub returns-in-Err-clause-fault : goal.returns-in-Err-clause-fault
 returns-in-Err-clause-fault g c = λ number fault same.
     let old = c.self.inside.block in
     let full = c.fill.new.self in
-    let number_is : c.self.inside.lines + 1 ≡ number = cc in
-    let fault_is : c.in-Err.fault ≡ fault = cc in
+    let number_is : c.self.inside.lines + 1 ≡ number = line_number (c.self.inside.lines + 1) number c.in-Err.fault fault same in
+    let fault_is : c.in-Err.fault ≡ fault = line_fault (c.self.inside.lines + 1) number c.in-Err.fault fault same in
     let some : 0 < length full.bytes = search rules in
     let line : c.window-line.result.now ≡ first_line full.bytes = c.window-line.ensures ∙ ap first_line c.bytes-2.ensures in
     let meaning : line_of c.self.inside.process (first_line full.bytes) ≡ Err fault =

@@ -16,3 +16,6 @@ invariant_of-self c =
 
 pub returns-clause-begins : goal.returns-clause-begins
 returns-clause-begins c = Begins-empty c.args.self.now _ (ap (λ (set : WorkingSetView). set.pages) c.self.view_is) c.clear.ensures.items
+
+pub returns-clause-pages : goal.returns-clause-pages
+returns-clause-pages c = ap (λ (set : WorkingSetView). set.pages) c.self.view_is
