@@ -1,7 +1,6 @@
-//! The tests of what a host is made of, by public calls: of `vm_board`, `vm_guest`, `vm_pool`, `vm_reclaim`, `vm_host`, and of `vm_config`
-//! with `vm_domains`.
+//! The tests of a host, by public calls: of `vm_reclaim` and `vm_host`.
 //!
-//! They are a crate of their own, so that none of those is proved once more with its tests.
+//! They are a crate of their own, so that neither is proved once more with its tests.
 #![tactic(auto)]
 
 #[cfg(test)]

@@ -1,8 +1,4 @@
-mod board;
-mod config;
-mod guest;
 mod host;
-mod pool;
 mod reclaim;
 
 use std::fmt::Debug;

@@ -1,15 +1,8 @@
 mod admission;
-mod balloon;
 mod commands;
-mod frames;
 mod json;
 mod lists;
-mod page_map;
-mod pages;
-mod patches;
 mod plan;
-mod sampling;
-mod swap;
 mod tax;
 mod traces;
 

@@ -1,0 +1,17 @@
+use Rattle.std.proofs.Common.{arith, ap}
+use Rattle.std.specs.FinSet as set
+use Rattle.std.specs.Ordering.{nat_cmp}
+use Rattle.vm_frames.specs.Machine.{MachineView}
+use Rattle.vm_guest.specs.Config.{GuestConfig}
+use Rattle.vm_guest.proofs.OnlyGuestLemmas.{own_given}
+use Rattle.guest_tests.proofs.tests.guest.lone_guest.LoneGuest.start_in.Goals as goal
+
+pub start_in-guest-requires-clause-enough : goal.start_in-guest-requires-clause-enough
+start_in-guest-requires-clause-enough g c =
+    let machine = rw c.expect-machine.ensures at c.new.ensures in
+    rw machine (omega (arith, set.len-empty nat_cmp, ap (λ (s : GuestConfig). s.min) c.spec.view_is))
+
+pub invariant_of-result : goal.invariant_of-result
+invariant_of-result g c =
+    let machine = rw c.expect-machine.ensures at c.new.ensures in
+    own_given _ _ _ (ap (λ (m : MachineView). m.out) machine) c.start_in-guest.ensures.frames
