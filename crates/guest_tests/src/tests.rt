@@ -1,6 +1,8 @@
 mod board;
+mod gates;
 mod guest;
 mod pool;
+mod traces;
 
 use std::fmt::Debug;
 use std::process::Abort;

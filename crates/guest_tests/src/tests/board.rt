@@ -1,14 +1,15 @@
-ghost use Rattle.std.specs.Prelude.{◌≡◌, ◌<◌, ◌≤◌, ◌+◌, ◌^◌, length, All, IfOk, IsTrue, vec_len};
-ghost use Rattle.vm_board.specs.Boards.{IsIdle, IsOver};
+ghost use Rattle.std.specs.Prelude.{◌≡◌, ◌<◌, ◌≤◌, ◌+◌, ◌^◌, length, All, IfOk, vec_len};
+ghost use Rattle.vm_board.specs.Boards.{IsDraw, IsIdle, IsNew, IsOver};
 
+use super::gates::{check_first_alone, check_met, nobody_met, zeros};
 use crate::tests::check_eq;
 use std::alloc::{AllocError, Global};
 use std::process::Abort;
 use std::sync::atomic::{AtomicU64, Ordering};
 use std::test::Fail;
+use std::thread;
 use std::thread::{Threads, join};
-use std::{array, thread};
-use vm_board::{Board, Gate, Jobs, Open, Pass, Ran, Work, run_round};
+use vm_board::{Board, Gate, Jobs, Open, Pass, Passes, Ran, Work, run_round};
 
 // A job that counts its own runs.
 #[derive(Drop)]
@@ -75,52 +76,9 @@ fn ran(jobs: Jobs<Tally>, count: usize, times: u64) -> bool {
     right
 }
 
-// Each of two tickets sets its own mark, and looks for the other's.
-#[derive(Drop)]
-struct Meeting {
-    marks: [AtomicU64; 2],
-    met: [AtomicU64; 2],
-}
-
-fn nobody_met() -> Meeting {
-    Meeting {
-        marks: [AtomicU64::new(0), AtomicU64::new(0)],
-        met: [AtomicU64::new(0), AtomicU64::new(0)],
-    }
-}
-
-impl Gate for Meeting {
-    ghost use Rattle.std.specs.Prelude.{⊤};
-
-    type Outside = ();
-
-    type Inside = ();
-
-    ghost passed = { λ _ _. ⊤ };
-
-    ghost inside = { λ _ _ _. ⊤ };
-
-    fn arrive(&self) {}
-
-    fn enter(&self, _outside: (), number: u32) {
-        if number >= 2 {
-            return;
-        }
-        let mine = number as usize;
-        let other = 1 - mine;
-        self.marks[mine].store(1, Ordering::SeqCst);
-        for _ in 0..1_000_000 {
-            if self.marks[other].load(Ordering::SeqCst) == 1 {
-                self.met[mine].store(1, Ordering::SeqCst);
-                return;
-            }
-            thread::yield_now();
-        }
-    }
-
-    fn leave(&self, _ran: Ran<()>, _number: u32)
-        ensures { ⊤ }
-    {}
+// Asserts that there are so many jobs, and that each has run once since `tallies` made it.
+fn check_ran(rt: &impl Abort, jobs: Jobs<Tally>, count: usize) {
+    check_eq(rt, ran(jobs, count, 1), true);
 }
 
 // How many are inside, and the most that ever were; how many entered, and how many left that had entered.
@@ -164,77 +122,120 @@ impl Gate for Turnstile {
     }
 }
 
-// Whether the pass finds that no number is left.
-fn ends<J: Work + Drop>(board: &Board<J>, pass: &mut Pass<J>) -> bool
-    requires { IsIdle board.now pass.old }
-    ensures { IsTrue result → IsOver board.now pass.new }
+// A board of so many jobs, with so many passes.
+fn board_of(
+    rt: &(impl AllocGlobal + Abort),
+    count: u64,
+    seats: u32,
+) -> (Board<Tally>, Passes<Tally>)
+    requires count { count ≤ 256 }
+    requires seats { (0 < seats) × (seats ≤ 64) }
+    ensures jobs { length result.0.jobs ≡ count }
+    ensures seats { result.0.seats ≡ seats }
+    ensures all { vec_len result.1.list ≡ seats }
+    ensures new { All (IsNew result.0) result.1.list.items }
+    ensures room { count ≤ result.1.room }
 {
-    board.draw(pass).is_none()
+    let jobs = tallies(rt.alloc(), count).expect(rt, "memory");
+    match Board::new(rt.alloc(), jobs, seats) {
+        Ok(made) => made,
+        Err(_refused) => panic!(rt; "memory"),
+    }
 }
 
-// Two jobs and two passes, which draw 0 and 1 and finish in the order asked for.
-fn two_passes<R: Abort>(rt: &R, alloc: Global, second_first: bool) -> Result<bool, Fail> {
-    let Ok((board, mut passes)) = Board::new(alloc, tallies(alloc, 2)?, 2) else {
-        panic!(rt; "memory")
-    };
-    let Some(mut second) = passes.list.pop() else {
-        panic!(rt; "two passes")
-    };
-    let Some(mut first) = passes.list.pop() else {
-        panic!(rt; "two passes")
-    };
-    let Some((zero, mut a)) = board.draw(&mut first) else {
-        panic!(rt; "a job waits")
-    };
-    let Some((one, mut b)) = board.draw(&mut second) else {
-        panic!(rt; "a job waits")
-    };
-    assert!(rt; zero == 0);
-    assert!(rt; one == 1);
+// One of a board's passes that have drawn nothing.
+fn next_pass(rt: &impl Abort, board: &Board<Tally>, list: &mut Vec<Pass<Tally>>) -> Pass<Tally>
+    requires new { All (IsNew board.now) list.old.items }
+    ensures new { IsNew board.now result }
+    ensures rest { All (IsNew board.now) list.new.items }
+    ensures len { vec_len list.new + 1 ≡ vec_len list.old }
+{
+    list.pop().expect(rt, "a pass")
+}
+
+// Draws a number that waits.
+fn drawn(rt: &impl Abort, board: &Board<Tally>, pass: &mut Pass<Tally>) -> (u32, Tally)
+    requires { IsIdle board.now pass.old }
+    ensures draw { IsDraw board.now pass.old result pass.new }
+    ensures ready { result.1.runs < 2 ^ 32 }
+{
+    match board.draw(pass) {
+        Some(drawn) => drawn,
+        None => panic!(rt; "no job waits"),
+    }
+}
+
+// Asserts that the pass finds that no number is left.
+fn check_over(rt: &impl Abort, board: &Board<Tally>, pass: &mut Pass<Tally>)
+    requires { IsIdle board.now pass.old }
+    ensures { IsOver board.now pass.new }
+{
+    match board.draw(pass) {
+        None => {}
+        Some(_) => panic!(rt; "a job waits"),
+    }
+}
+
+// Two passes draw 0 and 1, and finish in the order asked for.
+fn draw_two(
+    rt: &impl Abort,
+    board: &Board<Tally>,
+    first: &mut Pass<Tally>,
+    second: &mut Pass<Tally>,
+    second_first: bool,
+)
+    requires first { IsIdle board.now first.old }
+    requires second { IsIdle board.now second.old }
+    ensures first { IsIdle board.now first.new }
+    ensures second { IsIdle board.now second.new }
+{
+    let (zero, mut a) = drawn(rt, board, first);
+    let (one, mut b) = drawn(rt, board, second);
+    check_eq(rt, (zero, one), (0, 1));
     a.run();
     b.run();
     if second_first {
-        board.finish(&mut second, one, b);
-        board.finish(&mut first, zero, a);
+        board.finish(second, one, b);
+        board.finish(first, zero, a);
     } else {
-        board.finish(&mut first, zero, a);
-        board.finish(&mut second, one, b);
+        board.finish(first, zero, a);
+        board.finish(second, one, b);
     }
-    assert!(rt; ends(&board, &mut first));
-    assert!(rt; ends(&board, &mut second));
-    // a pass that is over stays so
-    assert!(rt; ends(&board, &mut first));
-    passes.list.push(second)?;
-    passes.list.push(first)?;
-    Ok(ran(board.close(passes), 2, 1))
 }
 
-#[test]
-fn two_passes_finish_in_either_order(rt: HostRuntime) -> Result<(), Fail> {
-    assert!(rt; two_passes(&rt, rt.alloc(), false)?);
-    assert!(rt; two_passes(&rt, rt.alloc(), true)?);
+// Two jobs and two passes, which draw 0 and 1 and finish in the order asked for.
+fn check_two_passes(rt: &(impl AllocGlobal + Abort), second_first: bool) -> Result<(), Fail> {
+    let (board, mut passes) = board_of(rt, 2, 2);
+    let mut second = next_pass(rt, &board, &mut passes.list);
+    let mut first = next_pass(rt, &board, &mut passes.list);
+    draw_two(rt, &board, &mut first, &mut second, second_first);
+    check_over(rt, &board, &mut first);
+    check_over(rt, &board, &mut second);
+    // a pass that is over stays so
+    check_over(rt, &board, &mut first);
+    passes.list.push(second)?;
+    passes.list.push(first)?;
+    check_ran(rt, board.close(passes), 2);
     Ok(())
 }
 
 #[test]
+fn two_passes_finish_in_either_order(rt: HostRuntime) -> Result<(), Fail> {
+    check_two_passes(&rt, false)?;
+    check_two_passes(&rt, true)
+}
+
+#[test]
 fn a_board_with_no_jobs(rt: HostRuntime) -> Result<(), Fail> {
-    let jobs = tallies(rt.alloc(), 0)?;
-    let Ok((board, mut passes)) = Board::new(rt.alloc(), jobs, 2) else {
-        panic!(rt; "memory")
-    };
-    let Some(mut second) = passes.list.pop() else {
-        panic!(rt; "two passes")
-    };
-    let Some(mut first) = passes.list.pop() else {
-        panic!(rt; "two passes")
-    };
-    assert!(rt; ends(&board, &mut first));
-    assert!(rt; ends(&board, &mut second));
+    let (board, mut passes) = board_of(&rt, 0, 2);
+    let mut second = next_pass(&rt, &board, &mut passes.list);
+    let mut first = next_pass(&rt, &board, &mut passes.list);
+    check_over(&rt, &board, &mut first);
+    check_over(&rt, &board, &mut second);
     passes.list.push(first)?;
     passes.list.push(second)?;
     let done = board.close(passes);
-    assert!(rt; done.is_empty());
-    check_eq(&rt, done.len(), 0);
+    check_eq(&rt, (done.is_empty(), done.len()), (true, 0));
     Ok(())
 }
 
@@ -293,53 +294,55 @@ fn put_back<J: Work>(
 
 #[test]
 fn two_threads_and_then_their_caller(rt: HostRuntime) -> Result<(), Fail> {
-    let jobs = tallies(rt.alloc(), 5)?;
-    let Ok((board, mut passes)) = Board::new(rt.alloc(), jobs, 5) else {
-        panic!(rt; "memory")
-    };
-    let Some(one) = passes.list.pop() else {
-        panic!(rt; "five passes")
-    };
-    let Some(other) = passes.list.pop() else {
-        panic!(rt; "five passes")
-    };
+    let (board, mut passes) = board_of(&rt, 5, 5);
+    let one = next_pass(&rt, &board, &mut passes.list);
+    let other = next_pass(&rt, &board, &mut passes.list);
     let (one, other) = drain_two(&rt, &board, one, other);
     drain_each(&rt, &board, passes.list.as_mut_slice());
     put_back(&board, &mut passes.list, one)?;
     put_back(&board, &mut passes.list, other)?;
-    assert!(rt; ran(board.close(passes), 5, 1));
+    check_ran(&rt, board.close(passes), 5);
     Ok(())
 }
 
+// Asserts that a round runs each of so many jobs once.
+fn check_round(
+    rt: &(impl AllocGlobal + Abort + Threads + Sync),
+    gate: &(impl Gate + Sync),
+    workers: u32,
+    count: u64,
+)
+    requires workers { (0 < workers) × (workers ≤ 64) }
+    requires count { count ≤ 256 }
+{
+    let jobs = tallies(rt.alloc(), count).expect(rt, "memory");
+    match run_round(rt, rt.alloc(), gate, workers, jobs) {
+        Ok(done) => check_ran(rt, done, count as usize),
+        Err(_refused) => panic!(rt; "memory"),
+    }
+}
+
 #[test]
-fn two_tickets_at_once(rt: HostRuntime) -> Result<(), Fail> {
+fn two_tickets_at_once(rt: HostRuntime) {
     let gate = nobody_met();
-    let Ok(done) = run_round(&rt, rt.alloc(), &gate, 2, tallies(rt.alloc(), 2)?) else {
-        panic!(rt; "memory")
-    };
-    assert!(rt; ran(done, 2, 1));
-    assert!(rt; gate.met[0].load(Ordering::SeqCst) == 1 && gate.met[1].load(Ordering::SeqCst) == 1);
-    Ok(())
+    check_round(&rt, &gate, 2, 2);
+    check_met(&rt, &gate);
 }
 
 // One worker runs the jobs one after another, so nobody is met. It is no promise of a clause.
 #[test]
-fn one_worker_meets_nobody(rt: HostRuntime) -> Result<(), Fail> {
+fn one_worker_meets_nobody(rt: HostRuntime) {
     let gate = nobody_met();
-    let Ok(done) = run_round(&rt, rt.alloc(), &gate, 1, tallies(rt.alloc(), 2)?) else {
-        panic!(rt; "memory")
-    };
-    assert!(rt; ran(done, 2, 1));
-    check_eq(&rt, gate.met[0].load(Ordering::SeqCst), 0);
-    Ok(())
+    check_round(&rt, &gate, 1, 2);
+    check_first_alone(&rt, &gate);
 }
 
 fn new_turnstile() -> Turnstile {
     Turnstile {
         inside: AtomicU64::new(0),
         most: AtomicU64::new(0),
-        entered: array::from_fn(|_: usize| AtomicU64::new(0)),
-        left: array::from_fn(|_: usize| AtomicU64::new(0)),
+        entered: zeros(),
+        left: zeros(),
     }
 }
 
@@ -367,7 +370,9 @@ impl Gate for Rising {
     }
 
     fn enter(&self, outside: Option<u32>, number: u32) -> u32 {
-        if outside.is_some_and(|last| number <= last) {
+        if let Some(last) = outside
+            && number <= last
+        {
             self.falls.fetch_add(1, Ordering::SeqCst);
         }
         number
@@ -381,40 +386,54 @@ impl Gate for Rising {
     }
 }
 
-// Each thread takes its numbers through in rising order, whatever their number.
+// Asserts that each thread of a round on so many workers takes its numbers through in rising order.
+fn check_rising(rt: &(impl AllocGlobal + Abort + Threads + Sync), workers: u32)
+    requires { (0 < workers) × (workers ≤ 64) }
+{
+    let gate = Rising {
+        falls: AtomicU64::new(0),
+    };
+    check_round(rt, &gate, workers, 64);
+    check_eq(
+        rt,
+        (workers, gate.falls.load(Ordering::SeqCst)),
+        (workers, 0),
+    );
+}
+
+// Each thread takes its numbers through in rising order, whatever the number of threads.
 #[test]
-fn numbers_of_a_thread_rise(rt: HostRuntime) -> Result<(), Fail> {
-    for workers in [1, 3, 64] {
-        let gate = Rising {
-            falls: AtomicU64::new(0),
-        };
-        let Ok(done) = run_round(&rt, rt.alloc(), &gate, workers, tallies(rt.alloc(), 64)?) else {
-            panic!(rt; "memory")
-        };
-        assert!(rt; ran(done, 64, 1));
-        assert_eq!(rt; gate.falls.load(Ordering::SeqCst), 0, "{workers} workers");
+fn numbers_of_a_thread_rise(rt: HostRuntime) {
+    check_rising(&rt, 1);
+    check_rising(&rt, 3);
+    check_rising(&rt, 64);
+}
+
+// Asserts that each of these happened once in a round.
+fn check_once(rt: &impl Abort, workers: u32, times: &[AtomicU64]) {
+    for time in times {
+        check_eq(rt, (workers, time.load(Ordering::SeqCst)), (workers, 1));
     }
-    Ok(())
+}
+
+// Asserts that no more are inside at once than there are workers, and that each number enters and leaves once.
+fn check_turnstile(rt: &(impl AllocGlobal + Abort + Threads + Sync), workers: u32)
+    requires { (0 < workers) × (workers ≤ 64) }
+{
+    let gate = new_turnstile();
+    check_round(rt, &gate, workers, 64);
+    let fits = gate.most.load(Ordering::SeqCst) <= u64::from(workers);
+    check_eq(rt, (workers, fits), (workers, true));
+    check_once(rt, workers, &gate.entered);
+    check_once(rt, workers, &gate.left);
 }
 
 // Each number enters once and leaves once, as a clause says, by a gate that counts.
 #[test]
-fn each_number_passes_the_gate_once(rt: HostRuntime) -> Result<(), Fail> {
-    for workers in [1, 3, 64] {
-        let gate = new_turnstile();
-        let Ok(done) = run_round(&rt, rt.alloc(), &gate, workers, tallies(rt.alloc(), 64)?) else {
-            panic!(rt; "memory")
-        };
-        assert!(rt; ran(done, 64, 1));
-        assert!(rt;
-            gate.most.load(Ordering::SeqCst) <= workers as u64,
-            "{workers} workers"
-        );
-        for times in gate.entered.iter().chain(&gate.left) {
-            assert_eq!(rt; times.load(Ordering::SeqCst), 1, "{workers} workers");
-        }
-    }
-    Ok(())
+fn each_number_passes_the_gate_once(rt: HostRuntime) {
+    check_turnstile(&rt, 1);
+    check_turnstile(&rt, 3);
+    check_turnstile(&rt, 64);
 }
 
 // At each allocation that fails in turn, the jobs come back as they were.
@@ -441,16 +460,22 @@ fn a_refused_round_hands_the_jobs_back(rt: HostRuntime) -> Result<(), Fail> {
     Ok(())
 }
 
+// Asserts that a round of no jobs is over.
+fn check_no_jobs(rt: &(impl AllocGlobal + Abort + Threads + Sync), workers: u32)
+    requires { (0 < workers) × (workers ≤ 64) }
+{
+    let jobs: Jobs<Tally> = Jobs::from(Vec::new(rt.alloc()));
+    match run_round(rt, rt.alloc(), &Open, workers, jobs) {
+        Ok(done) => check_eq(rt, (workers, done.is_empty()), (workers, true)),
+        Err(_refused) => panic!(rt; "memory"),
+    }
+}
+
 // No memory is wanted for it, so that none can be refused.
 #[test]
 fn a_round_of_no_jobs_is_over(rt: HostRuntime) {
-    for workers in [1, 64] {
-        let jobs: Jobs<Tally> = Jobs::from(Vec::new(rt.alloc()));
-        let Ok(done) = run_round(&rt, rt.alloc(), &Open, workers, jobs) else {
-            panic!(rt; "memory")
-        };
-        assert!(rt; done.is_empty());
-    }
+    check_no_jobs(&rt, 1);
+    check_no_jobs(&rt, 64);
 }
 
 // Two jobs that can't be dropped, with 1 stamp and 5.
@@ -502,9 +527,9 @@ struct Marks {
 
 fn no_marks() -> Marks {
     Marks {
-        entered: array::from_fn(|_: usize| AtomicU64::new(0)),
-        ran: array::from_fn(|_: usize| AtomicU64::new(0)),
-        left: array::from_fn(|_: usize| AtomicU64::new(0)),
+        entered: zeros(),
+        ran: zeros(),
+        left: zeros(),
     }
 }
 
@@ -590,8 +615,6 @@ fn a_job_runs_inside_its_gate(rt: HostRuntime) -> Result<(), Fail> {
         panic!(rt; "memory")
     };
     check_eq(&rt, done.len(), 8);
-    for times in &marks.left {
-        check_eq(&rt, times.load(Ordering::SeqCst), 1);
-    }
+    check_once(&rt, 3, &marks.left);
     Ok(())
 }

@@ -1,33 +1,18 @@
 // Pools from their start to their end, by worked examples.
-ghost use Rattle.std.specs.Prelude.{◌≡◌, ◌≤◌, ◌+◌, All, IfOk, OnOk, length, vec_len};
+ghost use Rattle.std.specs.Prelude.{◌≡◌, ◌≤◌, All, length};
+ghost use Rattle.std.specs.Option.{option_map};
+ghost use Rattle.vm_guest.specs.View.{view_of};
+ghost use Rattle.vm_pool.specs.Pool.{guest_at};
 ghost use Rattle.vm_trace.specs.Limits.{IsStep, IsWithin};
 
+use super::gates::{check_first_alone, check_met, nobody_met, zeros};
+use super::traces::{add_step, trace_of};
 use crate::tests::check_eq;
-use std::alloc::Global;
 use std::process::Abort;
 use std::sync::atomic::{AtomicU64, Ordering};
-use std::test::Fail;
 use std::thread::Threads;
-use std::{array, thread};
 use vm_pool::{Gate, GuestSpec, GuestView, Open, PageRead, Pool, Ran};
-use vm_trace::{Bytes, Trace, parse_step_within};
-
-// Adds a step of a guest of this size to a trace that has few.
-fn add_step(trace: &mut Trace, size: u32, text: &str) -> Result<(), Fail>
-    requires some_pages { 1 ≤ size }
-    requires few_pages { size ≤ 262144 }
-    requires within { All (IsWithin size) trace.old }
-    requires bounded { All IsStep trace.old }
-    ensures within { OnOk result (All (IsWithin size) trace.new) }
-    ensures bounded { OnOk result (All IsStep trace.new) }
-    ensures length { OnOk result (length trace.new ≡ length trace.old + 1) }
-{
-    let step = parse_step_within(text, size)?;
-    // To look at a step's action shows its limits.
-    let _ = step.action();
-    trace.push(step)?;
-    Ok(())
-}
+use vm_trace::{Bytes, Trace};
 
 // A guest of so many pages with this minimum, which runs one step an epoch.
 fn guest_of(size: u32, min: u32, trace: Trace) -> GuestSpec
@@ -53,21 +38,48 @@ fn guest_of(size: u32, min: u32, trace: Trace) -> GuestSpec
     }
 }
 
+// A pool of 20 frames with at most 256 guests.
+fn pool_of(rt: &(impl AllocGlobal + Abort), overhead: u32, specs: Vec<GuestSpec>) -> Pool {
+    assert!(rt; specs.len() <= 256);
+    match Pool::new(rt.alloc(), 20, overhead, specs) {
+        Ok(pool) => pool,
+        Err(_specs) => panic!(rt; "memory"),
+    }
+}
+
+// The same with these two.
+fn pool_of_two(
+    rt: &(impl AllocGlobal + Abort),
+    overhead: u32,
+    first: GuestSpec,
+    second: GuestSpec,
+) -> Pool {
+    let specs = Vec::from_array(rt.alloc(), [first, second]).expect(rt, "memory");
+    pool_of(rt, overhead, specs)
+}
+
 // A pool of 20 frames with two guests: one of 8 pages, which writes and reads its first, and an idle one of 4 pages. Each has a
 // minimum of 4 frames.
-fn two_guests(rt: &(impl AllocGlobal + Abort), overhead: u32) -> Result<Pool, Fail> {
-    let alloc = rt.alloc();
-    let mut trace = Trace::new(alloc);
-    add_step(&mut trace, 8, "w 0 0 0a")?;
-    add_step(&mut trace, 8, "r 0 0 2")?;
-    let specs = Vec::from_array(
-        alloc,
-        [guest_of(8, 4, trace), guest_of(4, 4, Trace::new(alloc))],
-    )?;
-    match Pool::new(alloc, 20, overhead, specs) {
-        Ok(pool) => Ok(pool),
-        Err(_specs) => Err(Fail::from("memory")),
-    }
+fn two_guests(rt: &(impl AllocGlobal + Abort), overhead: u32) -> Pool {
+    let trace = trace_of(rt, 8, &["w 0 0 0a", "r 0 0 2"]);
+    let first = guest_of(8, 4, trace);
+    let second = guest_of(4, 4, Trace::new(rt.alloc()));
+    pool_of_two(rt, overhead, first, second)
+}
+
+// The same where both run.
+fn two_running(rt: &(impl AllocGlobal + Abort), overhead: u32) -> Pool {
+    let mut pool = two_guests(rt, overhead);
+    start(rt, &mut pool, 0);
+    start(rt, &mut pool, 1);
+    pool
+}
+
+// What is seen of a guest, and no more: a clause of `view` tells all that is true of every guest as well.
+fn seen(pool: &Pool, position: usize) -> Option<GuestView>
+    ensures { result ≡ option_map view_of (guest_at pool.now position) }
+{
+    pool.view(position)
 }
 
 // Starts a guest that can start.
@@ -77,14 +89,14 @@ fn start(rt: &(impl AllocGlobal + Abort), pool: &mut Pool, position: usize) {
 
 // How many frames a guest is to have, and how many it has.
 fn frames_of(pool: &Pool, position: usize) -> Option<(u32, u32)> {
-    let view = pool.view(position)?;
+    let view = seen(pool, position)?;
     Some((view.target, view.held))
 }
 
 // Grants so many frames at once to a guest that asked for them.
 fn grant(rt: &impl Abort, pool: &mut Pool, position: usize, count: u32) {
     assert!(rt; position < pool.len() && count <= pool.free());
-    let view = pool.view(position).expect(rt, "it runs");
+    let view = seen(pool, position).expect(rt, "it runs");
     assert!(rt; u64::from(count) <= view.demand);
     assert!(rt; u64::from(view.target) + u64::from(count) <= u64::from(view.cap));
     pool.grant(position, count);
@@ -93,7 +105,7 @@ fn grant(rt: &impl Abort, pool: &mut Pool, position: usize, count: u32) {
 // Revokes so many frames of a guest at once.
 fn revoke(rt: &impl Abort, pool: &mut Pool, position: usize, count: u32) {
     assert!(rt; position < pool.len());
-    let view = pool.view(position).expect(rt, "it runs");
+    let view = seen(pool, position).expect(rt, "it runs");
     assert!(rt; u64::from(view.min) + u64::from(count) <= u64::from(view.target));
     pool.revoke(position, count);
 }
@@ -101,7 +113,7 @@ fn revoke(rt: &impl Abort, pool: &mut Pool, position: usize, count: u32) {
 // A guest gives back so many frames that it has above its target.
 fn release(rt: &impl Abort, pool: &mut Pool, position: usize, count: u32) {
     assert!(rt; position < pool.len());
-    let view = pool.view(position).expect(rt, "it runs");
+    let view = seen(pool, position).expect(rt, "it runs");
     assert!(rt; view.target <= view.held && count <= view.held - view.target);
     pool.release(position, count);
 }
@@ -109,7 +121,7 @@ fn release(rt: &impl Abort, pool: &mut Pool, position: usize, count: u32) {
 // Sets the most frames that a guest may get.
 fn set_cap(rt: &impl Abort, pool: &mut Pool, position: usize, cap: u32) {
     assert!(rt; position < pool.len());
-    let view = pool.view(position).expect(rt, "it runs");
+    let view = seen(pool, position).expect(rt, "it runs");
     assert!(rt; view.min <= cap && cap <= view.size);
     pool.set_cap(position, cap);
 }
@@ -117,14 +129,14 @@ fn set_cap(rt: &impl Abort, pool: &mut Pool, position: usize, cap: u32) {
 // The first of two guests gives back one frame that it has above its target.
 fn release_first(rt: &impl Abort, pool: &mut Pool) {
     assert!(rt; pool.len() == 2);
-    let view = pool.view(0).expect(rt, "it runs");
+    let view = seen(pool, 0).expect(rt, "it runs");
     assert!(rt; view.target < view.held);
     pool.release_all(&[1, 0]);
 }
 
 // Whether a guest may not run in its next epoch.
 fn is_blocked(pool: &Pool, position: usize) -> Option<bool> {
-    Some(pool.view(position)?.blocked)
+    Some(seen(pool, position)?.blocked)
 }
 
 // Asserts that the first guest may run, or may not.
@@ -160,7 +172,21 @@ fn halve_shares(rt: &impl Abort, pool: &mut Pool, position: usize) {
     pool.set_shares(position, 500);
 }
 
-// Serves all guests, takes their spares back, and lets them run.
+// Serves all guests, takes their spares back, and lets them run. Tells whether there was memory for it.
+fn runs(
+    rt: &(impl AllocGlobal + Threads + Sync),
+    gate: &(impl Gate + Sync),
+    workers: u32,
+    pool: &mut Pool,
+) -> bool
+    requires { (1 ≤ workers) × (workers ≤ 64) }
+{
+    pool.serve_all();
+    pool.spares_back_all();
+    pool.epoch(rt, rt.alloc(), gate, workers).is_ok()
+}
+
+// The same where there is memory.
 fn run(
     rt: &(impl AllocGlobal + Abort + Threads + Sync),
     gate: &(impl Gate + Sync),
@@ -169,15 +195,12 @@ fn run(
 )
     requires { (1 ≤ workers) × (workers ≤ 64) }
 {
-    pool.serve_all();
-    pool.spares_back_all();
-    pool.epoch(rt, rt.alloc(), gate, workers)
-        .expect(rt, "memory");
+    check_eq(rt, runs(rt, gate, workers, pool), true);
 }
 
 #[test]
-fn frames_move_and_add_up(rt: HostRuntime) -> Result<(), Fail> {
-    let mut pool = two_guests(&rt, 1)?;
+fn frames_move_and_add_up(rt: HostRuntime) {
+    let mut pool = two_guests(&rt, 1);
     check_eq(
         &rt,
         (
@@ -217,17 +240,14 @@ fn frames_move_and_add_up(rt: HostRuntime) -> Result<(), Fail> {
         (15, 1, None),
     );
     pool.close();
-    Ok(())
 }
 
 // Where guests above their targets are blocked, one that holds more than its target may not run.
 fn check_blocked_epoch(
     rt: &(impl AllocGlobal + Abort + Threads + Sync),
     gate: &(impl Gate + Sync),
-) -> Result<(), Fail> {
-    let mut pool = two_guests(rt, 1)?;
-    start(rt, &mut pool, 0);
-    start(rt, &mut pool, 1);
+) {
+    let mut pool = two_running(rt, 1);
     grant(rt, &mut pool, 0, 2);
     set_cap(rt, &mut pool, 0, 5);
     check_frames(rt, &pool, (5, 6), 8);
@@ -244,26 +264,23 @@ fn check_blocked_epoch(
     run(rt, gate, 2, &mut pool);
     check_eq(rt, done(&pool, 0), Some(1));
     pool.close();
-    Ok(())
 }
 
 #[test]
-fn a_guest_above_its_target_waits(rt: HostRuntime) -> Result<(), Fail> {
+fn a_guest_above_its_target_waits(rt: HostRuntime) {
     check_blocked_epoch(&rt, &Open)
 }
 
 // The same where the gate may wait, so that each epoch is a round on threads.
 #[test]
-fn a_guest_above_its_target_waits_in_a_round(rt: HostRuntime) -> Result<(), Fail> {
+fn a_guest_above_its_target_waits_in_a_round(rt: HostRuntime) {
     check_blocked_epoch(&rt, &no_passages())
 }
 
 // Of three frames granted at once, two are there above the old target, and one comes from those that are free.
 #[test]
-fn frames_come_where_there_are_too_few(rt: HostRuntime) -> Result<(), Fail> {
-    let mut pool = two_guests(&rt, 1)?;
-    start(&rt, &mut pool, 0);
-    start(&rt, &mut pool, 1);
+fn frames_come_where_there_are_too_few(rt: HostRuntime) {
+    let mut pool = two_running(&rt, 1);
     grant(&rt, &mut pool, 0, 2);
     check_frames(&rt, &pool, (6, 6), 8);
     set_cap(&rt, &mut pool, 0, 4);
@@ -271,17 +288,14 @@ fn frames_come_where_there_are_too_few(rt: HostRuntime) -> Result<(), Fail> {
     check_frames(&rt, &pool, (4, 6), 8);
     grant(&rt, &mut pool, 0, 3);
     check_frames(&rt, &pool, (7, 7), 7);
-    check_eq(&rt, pool.view(0).expect(&rt, "it runs").demand, 3);
+    check_eq(&rt, seen(&pool, 0).expect(&rt, "it runs").demand, 3);
     pool.close();
-    Ok(())
 }
 
 // Guests give frames up side by side, and get their orders where nobody waits.
 #[test]
-fn all_guests_at_once(rt: HostRuntime) -> Result<(), Fail> {
-    let mut pool = two_guests(&rt, 0)?;
-    start(&rt, &mut pool, 0);
-    start(&rt, &mut pool, 1);
+fn all_guests_at_once(rt: HostRuntime) {
+    let mut pool = two_running(&rt, 0);
     grant(&rt, &mut pool, 0, 1);
     set_cap(&rt, &mut pool, 0, 4);
     check_frames(&rt, &pool, (4, 5), 11);
@@ -295,62 +309,13 @@ fn all_guests_at_once(rt: HostRuntime) -> Result<(), Fail> {
         (Some((4, 4)), true),
     );
     halve_shares(&rt, &mut pool, 1);
-    check_eq(&rt, pool.view(1).expect(&rt, "it runs").shares, 500);
+    check_eq(&rt, seen(&pool, 1).expect(&rt, "it runs").shares, 500);
     pool.close();
-    Ok(())
-}
-
-// Each of two tickets sets its own mark, and looks for the other's.
-#[derive(Drop)]
-struct Meeting {
-    marks: [AtomicU64; 2],
-    met: [AtomicU64; 2],
-}
-
-fn nobody_met() -> Meeting {
-    Meeting {
-        marks: [AtomicU64::new(0), AtomicU64::new(0)],
-        met: [AtomicU64::new(0), AtomicU64::new(0)],
-    }
-}
-
-impl Gate for Meeting {
-    ghost use Rattle.std.specs.Prelude.{⊤};
-
-    type Outside = ();
-
-    type Inside = ();
-
-    ghost passed = { λ _ _. ⊤ };
-
-    ghost inside = { λ _ _ _. ⊤ };
-
-    fn arrive(&self) {}
-
-    fn enter(&self, _outside: (), number: u32) {
-        if number >= 2 {
-            return;
-        }
-        let mine = number as usize;
-        let other = 1 - mine;
-        self.marks[mine].store(1, Ordering::SeqCst);
-        for _ in 0..1_000_000 {
-            if self.marks[other].load(Ordering::SeqCst) == 1 {
-                self.met[mine].store(1, Ordering::SeqCst);
-                return;
-            }
-            thread::yield_now();
-        }
-    }
-
-    fn leave(&self, _ran: Ran<()>, _number: u32)
-        ensures { ⊤ }
-    {}
 }
 
 // How many steps a guest has done.
 fn done(pool: &Pool, position: usize) -> Option<u32> {
-    Some(pool.view(position)?.done)
+    Some(seen(pool, position)?.done)
 }
 
 // Asserts how many steps the first guest and the second have done.
@@ -364,20 +329,13 @@ fn check_done(rt: &impl Abort, pool: &Pool, steps: [u32; 2]) {
 }
 
 #[test]
-fn two_tickets_at_once(rt: HostRuntime) -> Result<(), Fail> {
-    let mut pool = two_guests(&rt, 0)?;
-    start(&rt, &mut pool, 0);
-    start(&rt, &mut pool, 1);
+fn two_tickets_at_once(rt: HostRuntime) {
+    let mut pool = two_running(&rt, 0);
     let gate = nobody_met();
     run(&rt, &gate, 2, &mut pool);
-    check_eq(
-        &rt,
-        gate.met[0].load(Ordering::SeqCst) == 1 && gate.met[1].load(Ordering::SeqCst) == 1,
-        true,
-    );
+    check_met(&rt, &gate);
     check_done(&rt, &pool, [1, 0]);
     pool.close();
-    Ok(())
 }
 
 // What passed the gate, in order: 2 n + 1 where the number n entered it, and 2 n + 2 where it left.
@@ -390,7 +348,7 @@ struct Passages {
 fn no_passages() -> Passages {
     Passages {
         count: AtomicU64::new(0),
-        which: array::from_fn(|_: usize| AtomicU64::new(0)),
+        which: zeros(),
     }
 }
 
@@ -437,8 +395,8 @@ fn passed(passages: &Passages) -> [u64; 4] {
 
 // One worker serves the running guests in order, each between its entry and its exit. A stopped guest has no number.
 #[test]
-fn one_worker_serves_in_order(rt: HostRuntime) -> Result<(), Fail> {
-    let mut pool = two_guests(&rt, 0)?;
+fn one_worker_serves_in_order(rt: HostRuntime) {
+    let mut pool = two_guests(&rt, 0);
     start(&rt, &mut pool, 1);
     let alone = no_passages();
     run(&rt, &alone, 1, &mut pool);
@@ -449,7 +407,6 @@ fn one_worker_serves_in_order(rt: HostRuntime) -> Result<(), Fail> {
     check_eq(&rt, passed(&both), [1, 2, 3, 4]);
     check_done(&rt, &pool, [1, 0]);
     pool.close();
-    Ok(())
 }
 
 // How many guests are set up, and the sizes of the first two.
@@ -459,53 +416,42 @@ fn sizes_of(specs: &[GuestSpec]) -> (usize, Option<u32>, Option<u32>) {
 }
 
 // A pool is closed, and what comes back makes it again.
-fn made_again(rt: &(impl AllocGlobal + Abort), pool: Pool) -> Result<Pool, Fail> {
+fn made_again(rt: &(impl AllocGlobal + Abort), pool: Pool) -> Pool {
     let specs = pool.close();
     check_eq(rt, sizes_of(specs.as_slice()), (2, Some(8), Some(4)));
-    assert!(rt; specs.len() <= 256);
-    match Pool::new(rt.alloc(), 20, 1, specs) {
-        Ok(pool) => Ok(pool),
-        Err(_specs) => Err(Fail::from("memory")),
-    }
+    pool_of(rt, 1, specs)
 }
 
 // The specifications come back in order, of guests that run and of those that don't, and a trace begins again.
 #[test]
-fn specifications_come_back(rt: HostRuntime) -> Result<(), Fail> {
-    let mut pool = two_guests(&rt, 1)?;
+fn specifications_come_back(rt: HostRuntime) {
+    let mut pool = two_guests(&rt, 1);
     start(&rt, &mut pool, 0);
     run(&rt, &Open, 1, &mut pool);
-    let mut pool = made_again(&rt, pool)?;
+    let mut pool = made_again(&rt, pool);
     check_eq(&rt, (pool.is_running(0), pool.free()), (false, 20));
     start(&rt, &mut pool, 1);
-    let mut pool = made_again(&rt, pool)?;
+    let mut pool = made_again(&rt, pool);
     start(&rt, &mut pool, 0);
     start(&rt, &mut pool, 1);
     run(&rt, &Open, 1, &mut pool);
     check_done(&rt, &pool, [1, 0]);
     pool.close();
-    Ok(())
 }
 
 // One worker meets nobody.
 #[test]
-fn one_ticket_at_a_time(rt: HostRuntime) -> Result<(), Fail> {
-    let mut pool = two_guests(&rt, 0)?;
-    start(&rt, &mut pool, 0);
-    start(&rt, &mut pool, 1);
+fn one_ticket_at_a_time(rt: HostRuntime) {
+    let mut pool = two_running(&rt, 0);
     let gate = nobody_met();
     run(&rt, &gate, 1, &mut pool);
-    check_eq(&rt, gate.met[0].load(Ordering::SeqCst), 0);
+    check_first_alone(&rt, &gate);
     pool.close();
-    Ok(())
 }
 
 // A guest beside one that is stopped runs as ever, and its memory is shown.
-fn check_one_runs(
-    rt: &(impl AllocGlobal + Abort + Threads + Sync),
-    gate: &(impl Gate + Sync),
-) -> Result<(), Fail> {
-    let mut pool = two_guests(rt, 0)?;
+fn check_one_runs(rt: &(impl AllocGlobal + Abort + Threads + Sync), gate: &(impl Gate + Sync)) {
+    let mut pool = two_guests(rt, 0);
     start(rt, &mut pool, 0);
     run(rt, gate, 64, &mut pool);
     run(rt, gate, 1, &mut pool);
@@ -524,17 +470,16 @@ fn check_one_runs(
         true,
     );
     pool.close();
-    Ok(())
 }
 
 #[test]
-fn the_others_wait(rt: HostRuntime) -> Result<(), Fail> {
+fn the_others_wait(rt: HostRuntime) {
     check_one_runs(&rt, &Open)
 }
 
 // The same where the gate may wait, so that the first epoch is a round on threads.
 #[test]
-fn the_others_wait_in_a_round(rt: HostRuntime) -> Result<(), Fail> {
+fn the_others_wait_in_a_round(rt: HostRuntime) {
     check_one_runs(&rt, &no_passages())
 }
 
@@ -555,19 +500,9 @@ fn starts(rt: &(impl AllocGlobal + Abort), pool: &mut Pool, position: usize) -> 
 // Sets the minimum of a guest, and tells whether there was memory for it.
 fn sets_min(rt: &impl Abort, pool: &mut Pool, position: usize, least: u32) -> bool {
     assert!(rt; position < pool.len() && least >= 1);
-    let view = pool.view(position).expect(rt, "it runs");
+    let view = seen(pool, position).expect(rt, "it runs");
     assert!(rt; least <= view.cap && least.saturating_sub(view.held) <= pool.free());
     pool.set_min(position, least).is_ok()
-}
-
-// Serves all guests and lets them run, and tells whether there was memory for it.
-fn runs(
-    rt: &(impl AllocGlobal + Threads + Sync),
-    gate: &(impl Gate + Sync),
-    pool: &mut Pool,
-) -> bool {
-    pool.serve_all();
-    pool.epoch(rt, rt.alloc(), gate, 2).is_ok()
 }
 
 // Where an epoch of the first guest lacked memory, no step was done, and where a lower minimum did, the reserve is as before.
@@ -576,7 +511,7 @@ fn check_refusals(
     gate: &(impl Gate + Sync),
     pool: &mut Pool,
 ) {
-    let ran = runs(rt, gate, pool);
+    let ran = runs(rt, gate, 2, pool);
     check_eq(rt, done(pool, 0), Some(u32::from(ran)));
     set_min(rt, pool, 0, 5);
     let set = sets_min(rt, pool, 0, 2);
@@ -587,8 +522,8 @@ fn check_refusals(
 fn check_calls_refused(
     rt: &(impl AllocGlobal + Abort + Threads + Sync),
     gate: &(impl Gate + Sync),
-) -> Result<(), Fail> {
-    let mut pool = two_guests(rt, 1)?;
+) {
+    let mut pool = two_guests(rt, 1);
     let started = starts(rt, &mut pool, 0);
     let free = if started { 15 } else { 20 };
     check_eq(rt, (pool.is_running(0), pool.free()), (started, free));
@@ -596,61 +531,45 @@ fn check_calls_refused(
         check_refusals(rt, gate, &mut pool);
     }
     pool.close();
-    Ok(())
 }
 
 #[test]
-fn where_memory_is_refused_nothing_changes(rt: HostRuntime) -> Result<(), Fail> {
+fn where_memory_is_refused_nothing_changes(rt: HostRuntime) {
     check_calls_refused(&rt, &Open)
 }
 
 // The same where the gate may wait, so that the round is one on threads.
 #[test]
-fn where_a_round_is_refused_memory_nothing_changes(rt: HostRuntime) -> Result<(), Fail> {
+fn where_a_round_is_refused_memory_nothing_changes(rt: HostRuntime) {
     check_calls_refused(&rt, &no_passages())
 }
 
 // A trace of so many writes to the pages of a guest that has eight, one after the other.
-fn writes(alloc: Global, count: u32) -> Result<Trace, Fail>
+fn writes(rt: &(impl AllocGlobal + Abort), count: u32) -> Trace
     requires { count ≤ 1000000 }
-    ensures within { IfOk result (λ trace. All (IsWithin 8) trace) }
-    ensures bounded { IfOk result (λ trace. All IsStep trace) }
-    ensures length { IfOk result (λ trace. length trace ≡ count) }
+    ensures within { All (IsWithin 8) result }
+    ensures bounded { All IsStep result }
+    ensures length { length result ≡ count }
 {
     let texts = [
         "w 0 0 0a", "w 1 0 0b", "w 2 0 0c", "w 3 0 0d", "w 4 0 0e", "w 5 0 0f", "w 6 0 10",
         "w 7 0 11",
     ];
-    let mut trace = Trace::new(alloc);
+    let mut trace = Trace::new(rt.alloc());
     for number in 0..count {
-        add_step(&mut trace, 8, texts[number as usize % 8])?;
+        add_step(rt, &mut trace, 8, texts[number as usize % 8]);
     }
-    Ok(trace)
+    trace
 }
 
 // A guest of eight pages with half of them in frames, which runs so many writes in epochs of this quantum.
-fn writer(alloc: Global, count: u32, quantum: u32) -> Result<GuestSpec, Fail>
+fn writer(rt: &(impl AllocGlobal + Abort), count: u32, quantum: u32) -> GuestSpec
     requires few { count ≤ 1000000 }
     requires quantum { (1 ≤ quantum) × (quantum ≤ 65536) }
 {
-    Ok(GuestSpec {
+    GuestSpec {
         quantum,
-        ..guest_of(8, 4, writes(alloc, count)?)
-    })
-}
-
-// A pool with two such guests.
-fn two_writers(rt: &(impl AllocGlobal + Abort), count: u32, quantum: u32) -> Result<Pool, Fail>
-    requires few { count ≤ 1000000 }
-    requires quantum { (1 ≤ quantum) × (quantum ≤ 65536) }
-{
-    let alloc = rt.alloc();
-    let first = writer(alloc, count, quantum)?;
-    let second = writer(alloc, count, quantum)?;
-    let specs = Vec::from_array(alloc, [first, second])?;
-    match Pool::new(alloc, 20, 0, specs) {
-        Ok(pool) => Ok(pool),
-        Err(_specs) => Err(Fail::from("memory")),
+        ..guest_of(8, 4, writes(rt, count))
     }
 }
 
@@ -661,12 +580,15 @@ fn shown_after(
     workers: u32,
     epochs: u32,
     quantum: u32,
-) -> Result<[Option<GuestView>; 2], Fail>
+) -> [Option<GuestView>; 2]
     requires workers { (1 ≤ workers) × (workers ≤ 64) }
     requires epochs { epochs ≤ 100 }
     requires quantum { (1 ≤ quantum) × (quantum ≤ 10000) }
 {
-    let mut pool = two_writers(rt, epochs * quantum, quantum)?;
+    let count = epochs * quantum;
+    let first = writer(rt, count, quantum);
+    let second = writer(rt, count, quantum);
+    let mut pool = pool_of_two(rt, 0, first, second);
     start(rt, &mut pool, 0);
     start(rt, &mut pool, 1);
     for _ in 0..epochs {
@@ -674,33 +596,28 @@ fn shown_after(
     }
     let shown = [pool.view(0), pool.view(1)];
     pool.close();
-    Ok(shown)
+    shown
 }
 
 // Asserts that so many epochs leave the same guests on any number of workers, whether or not the gate may wait.
-fn check_shared(
-    rt: &(impl AllocGlobal + Abort + Threads + Sync),
-    epochs: u32,
-    quantum: u32,
-) -> Result<(), Fail>
+fn check_shared(rt: &(impl AllocGlobal + Abort + Threads + Sync), epochs: u32, quantum: u32)
     requires epochs { epochs ≤ 100 }
     requires quantum { (1 ≤ quantum) × (quantum ≤ 10000) }
 {
-    let alone = shown_after(rt, &Open, 1, epochs, quantum)?;
-    let open = shown_after(rt, &Open, 2, epochs, quantum)?;
-    let most = shown_after(rt, &Open, 64, epochs, quantum)?;
-    let gated_alone = shown_after(rt, &no_passages(), 1, epochs, quantum)?;
-    let gated = shown_after(rt, &no_passages(), 2, epochs, quantum)?;
-    let gated_most = shown_after(rt, &no_passages(), 64, epochs, quantum)?;
+    let alone = shown_after(rt, &Open, 1, epochs, quantum);
+    let open = shown_after(rt, &Open, 2, epochs, quantum);
+    let most = shown_after(rt, &Open, 64, epochs, quantum);
+    let gated_alone = shown_after(rt, &no_passages(), 1, epochs, quantum);
+    let gated = shown_after(rt, &no_passages(), 2, epochs, quantum);
+    let gated_most = shown_after(rt, &no_passages(), 64, epochs, quantum);
     let shown = [open, most, gated_alone, gated, gated_most];
     check_eq(rt, shown, [alone, alone, alone, alone, alone]);
-    Ok(())
 }
 
 // Epochs of few steps stay on one thread where the gate never waits, and those of many are shared.
 #[test]
-fn epochs_are_the_same_however_they_are_shared(rt: HostRuntime) -> Result<(), Fail> {
-    check_shared(&rt, 100, 3)?;
-    check_shared(&rt, 5, 1500)?;
-    check_shared(&rt, 3, 5000)
+fn epochs_are_the_same_however_they_are_shared(rt: HostRuntime) {
+    check_shared(&rt, 100, 3);
+    check_shared(&rt, 5, 1500);
+    check_shared(&rt, 3, 5000);
 }

@@ -1,13 +1,15 @@
 //! Worked examples of boundaries, over a pool without a host.
-ghost use Rattle.std.specs.Prelude.{◌≤◌};
+ghost use Rattle.std.specs.Prelude.{◌≡◌, ◌≤◌};
+ghost use Rattle.std.specs.Option.{option_map};
+ghost use Rattle.vm_guest.specs.View.{view_of};
+ghost use Rattle.vm_pool.specs.Pool.{guest_at};
 
 use crate::tests::check_eq;
 use std::alloc::Global;
 use std::process::Abort;
-use std::test::Fail;
 use std::thread::Threads;
 use vm_domains::{MachineSpec, Percents};
-use vm_guest::GuestSpec;
+use vm_guest::{GuestSpec, GuestView};
 use vm_plan::{Plan, State, next_state};
 use vm_pool::{Open, Pool};
 use vm_reclaim::{
@@ -59,13 +61,25 @@ fn guest_of(alloc: Global, size: u32, min: u32, shares: u32) -> GuestSpec
     }
 }
 
-// A pool of so many frames with two guests.
-fn pool_of(alloc: Global, frames: u32, guests: [GuestSpec; 2]) -> Result<Pool, Fail> {
-    let specs = Vec::from_array(alloc, guests)?;
-    match Pool::new(alloc, frames, 0, specs) {
-        Ok(pool) => Ok(pool),
-        Err(_specs) => Err(Fail::from("memory")),
+// A pool of so many frames with these two guests.
+fn pool_of(
+    rt: &(impl AllocGlobal + Abort),
+    frames: u32,
+    first: GuestSpec,
+    second: GuestSpec,
+) -> Pool {
+    let specs = Vec::from_array(rt.alloc(), [first, second]).expect(rt, "memory");
+    match Pool::new(rt.alloc(), frames, 0, specs) {
+        Ok(pool) => pool,
+        Err(_specs) => panic!(rt; "memory"),
     }
+}
+
+// What is seen of a guest, and no more: a clause of `view` tells all that is true of every guest as well.
+fn seen(pool: &Pool, position: usize) -> Option<GuestView>
+    ensures { result ≡ option_map view_of (guest_at pool.now position) }
+{
+    pool.view(position)
 }
 
 // Starts a guest whose frames are free.
@@ -96,7 +110,7 @@ fn start(
 // Sets a minimum whose frames are free.
 fn set_min_within(rt: &impl Abort, pool: &mut Pool, position: usize, least: u32) {
     assert!(rt; position < pool.len() && least >= 1);
-    let view = pool.view(position).expect(rt, "it runs");
+    let view = seen(pool, position).expect(rt, "it runs");
     assert!(rt; least <= view.cap && least.saturating_sub(view.held) <= pool.free());
     pool.set_min(position, least).expect(rt, "memory");
 }
@@ -202,7 +216,7 @@ fn quiet(state: State, free: u32) -> Told {
 
 // How many frames a guest is to have, and how many it has.
 fn frames_of(pool: &Pool, position: usize) -> Option<(u32, u32)> {
-    let view = pool.view(position)?;
+    let view = seen(pool, position)?;
     Some((view.target, view.held))
 }
 
@@ -228,14 +242,15 @@ fn check_frames(rt: &impl Abort, pool: &Pool, position: usize, frames: (u32, u32
 }
 
 #[test]
-fn a_second_guest_takes_its_frames_from_the_first(rt: HostRuntime) -> Result<(), Fail> {
+fn a_second_guest_takes_its_frames_from_the_first(rt: HostRuntime) {
     let alloc = rt.alloc();
     let numbers = numbers(16);
     let mut pool = pool_of(
-        alloc,
+        &rt,
         100,
-        [guest_of(alloc, 100, 10, 1000), guest_of(alloc, 2, 2, 1000)],
-    )?;
+        guest_of(alloc, 100, 10, 1000),
+        guest_of(alloc, 2, 2, 1000),
+    );
     check_start(&rt, &numbers, &mut pool, 0, 0);
     let first = settle(&rt, &numbers, &mut pool, State::High);
     let wanted = Told {
@@ -259,18 +274,18 @@ fn a_second_guest_takes_its_frames_from_the_first(rt: HostRuntime) -> Result<(),
     check_frames(&rt, &pool, 0, (91, 91));
     check_frames(&rt, &pool, 1, (2, 2));
     pool.close();
-    Ok(())
 }
 
 #[test]
-fn in_low_a_guest_is_paged_and_waits(rt: HostRuntime) -> Result<(), Fail> {
+fn in_low_a_guest_is_paged_and_waits(rt: HostRuntime) {
     let alloc = rt.alloc();
     let numbers = numbers(1);
     let mut pool = pool_of(
-        alloc,
+        &rt,
         100,
-        [guest_of(alloc, 100, 10, 1000), guest_of(alloc, 5, 5, 1000)],
-    )?;
+        guest_of(alloc, 100, 10, 1000),
+        guest_of(alloc, 5, 5, 1000),
+    );
     check_start(&rt, &numbers, &mut pool, 0, 0);
     let first = settle(&rt, &numbers, &mut pool, State::High);
     check_eq(&rt, first.granted, [86, 0]);
@@ -295,18 +310,18 @@ fn in_low_a_guest_is_paged_and_waits(rt: HostRuntime) -> Result<(), Fail> {
     check_told(&rt, fourth, quiet(State::Soft, 7));
     check_frames(&rt, &pool, 0, (88, 88));
     pool.close();
-    Ok(())
 }
 
 #[test]
-fn a_raised_minimum_takes_from_the_other_guest(rt: HostRuntime) -> Result<(), Fail> {
+fn a_raised_minimum_takes_from_the_other_guest(rt: HostRuntime) {
     let alloc = rt.alloc();
     let numbers = numbers(16);
     let mut pool = pool_of(
-        alloc,
+        &rt,
         100,
-        [guest_of(alloc, 90, 10, 1000), guest_of(alloc, 20, 2, 1)],
-    )?;
+        guest_of(alloc, 90, 10, 1000),
+        guest_of(alloc, 20, 2, 1),
+    );
     check_start(&rt, &numbers, &mut pool, 0, 0);
     check_start(&rt, &numbers, &mut pool, 1, 0);
     let first = settle(&rt, &numbers, &mut pool, State::High);
@@ -328,19 +343,19 @@ fn a_raised_minimum_takes_from_the_other_guest(rt: HostRuntime) -> Result<(), Fa
     check_frames(&rt, &pool, 0, (77, 77));
     check_frames(&rt, &pool, 1, (16, 16));
     pool.close();
-    Ok(())
 }
 
 // What the first guest gives up is granted to the second in the same boundary.
 #[test]
-fn frames_given_up_are_granted(rt: HostRuntime) -> Result<(), Fail> {
+fn frames_given_up_are_granted(rt: HostRuntime) {
     let alloc = rt.alloc();
     let numbers = numbers(16);
     let mut pool = pool_of(
-        alloc,
+        &rt,
         100,
-        [guest_of(alloc, 100, 10, 1000), guest_of(alloc, 10, 3, 1000)],
-    )?;
+        guest_of(alloc, 100, 10, 1000),
+        guest_of(alloc, 10, 3, 1000),
+    );
     check_start(&rt, &numbers, &mut pool, 0, 0);
     let first = settle(&rt, &numbers, &mut pool, State::High);
     check_eq(&rt, first.granted, [86, 0]);
@@ -358,18 +373,18 @@ fn frames_given_up_are_granted(rt: HostRuntime) -> Result<(), Fail> {
     check_frames(&rt, &pool, 0, (90, 90));
     check_frames(&rt, &pool, 1, (9, 9));
     pool.close();
-    Ok(())
 }
 
 // Of equal prices the lower position comes first.
 #[test]
-fn equal_guests_give_in_turn(rt: HostRuntime) -> Result<(), Fail> {
+fn equal_guests_give_in_turn(rt: HostRuntime) {
     let alloc = rt.alloc();
     let mut pool = pool_of(
-        alloc,
+        &rt,
         15,
-        [guest_of(alloc, 5, 5, 100), guest_of(alloc, 5, 5, 100)],
-    )?;
+        guest_of(alloc, 5, 5, 100),
+        guest_of(alloc, 5, 5, 100),
+    );
     start_within(&rt, &mut pool, 0);
     start_within(&rt, &mut pool, 1);
     set_min_within(&rt, &mut pool, 0, 1);
@@ -379,5 +394,4 @@ fn equal_guests_give_in_turn(rt: HostRuntime) -> Result<(), Fail> {
     let revoked: Vec<u32> = plan.revoked.moves().collect(alloc).expect(&rt, "memory");
     check_eq(&rt, revoked.as_slice(), [0, 1].as_slice());
     pool.close();
-    Ok(())
 }

@@ -1,9 +1,8 @@
 ghost use Rattle.std.specs.Prelude.{◌≡◌, ◌<◌, ◌≤◌, vec_capacity};
 
-use super::check_eq;
+use super::{check, check_eq};
 use std::alloc::Global;
 use std::process::Abort;
-use std::test::Fail;
 use vm_balloon::{Device, PostError, Queue, Stats, encode_page, encode_stat, page_at, stat_at};
 
 // Serves the device, and asserts what that did.
@@ -23,6 +22,22 @@ fn check_post(rt: &impl Abort, device: &mut Device, queue: Queue, bytes: &[u8])
     check_eq(rt, device.post(queue, bytes), Ok(()));
 }
 
+// Posts a buffer, serves the device, and asserts what that did.
+fn check_served(
+    rt: &impl Abort,
+    device: &mut Device,
+    queue: Queue,
+    bytes: &[u8],
+    inflated: &[u32],
+    deflated: &[u32],
+    bad: u32,
+)
+    ensures { device.new.size ≡ device.old.size }
+{
+    check_post(rt, device, queue, bytes);
+    check_service(rt, device, inflated, deflated, bad);
+}
+
 // Posts buffers, and asserts that the device takes each.
 fn check_posts(rt: &impl Abort, device: &mut Device, posts: &[(Queue, &[u8])]) {
     for &(queue, bytes) in posts {
@@ -31,19 +46,12 @@ fn check_posts(rt: &impl Abort, device: &mut Device, posts: &[(Queue, &[u8])]) {
 }
 
 // Asserts which the least pages in the balloon are.
-fn check_listed(
-    rt: &impl Abort,
-    alloc: Global,
-    device: &Device,
-    most: u32,
-    want: &[u32],
-) -> Result<(), Fail> {
-    let mut pages = Vec::with_capacity(alloc, most as usize)?;
+fn check_listed(rt: &impl Abort, alloc: Global, device: &Device, most: u32, want: &[u32]) {
+    let mut pages = Vec::with_capacity(alloc, most as usize).expect(rt, "memory");
     // Twice, since what was listed before has to go.
     device.list_ballooned(most, &mut pages);
     device.list_ballooned(most, &mut pages);
     check_eq(rt, pages.as_slice(), want);
-    Ok(())
 }
 
 // Asserts how many pages are in the balloon.
@@ -87,123 +95,159 @@ fn check_config(rt: &impl Abort, device: &Device, bytes: [u8; 8]) {
     check_eq(rt, device.config(), bytes);
 }
 
-// Runs the steps of a test on a device that only this function owns, since a function that owns one is proved to free all parts
-// of it wherever it may end.
-fn on_device<F: FnOnce(&mut Device) -> Result<(), Fail>>(
-    alloc: Global,
-    size: u32,
-    buffers: u32,
-    steps: F,
-) -> Result<(), Fail>
+// A device with nothing posted.
+fn new_device(rt: &impl Abort, alloc: Global, size: u32, buffers: u32) -> Device
     requires size_in_range { size ≤ 262144 }
     requires buffers_in_range { buffers ≤ 256 }
-    requires callable { (device : _) → device.now.size ≡ size → F.pre steps device }
+    ensures { result.size ≡ size }
 {
-    let mut device = Device::new(alloc, size, buffers)?;
-    steps(&mut device)
+    Device::new(alloc, size, buffers).expect(rt, "memory")
 }
+
+// Ends a device. It stands here once, since a function that owns one is proved to free all parts of it where it ends.
+fn end(_device: Device) {}
 
 // Puts the last of four pages into the balloon, and uses it early.
 fn use_early(rt: &impl Abort, device: &mut Device)
     requires { device.old.size ≡ 4 }
     ensures { device.new.size ≡ 4 }
 {
-    check_post(rt, device, Queue::Inflate, &encode_page(3));
-    check_service(rt, device, &[3], &[], 0);
-    assert!(rt; device.is_ballooned(3));
-    assert!(rt; !device.posted_inflate(3));
+    check_served(rt, device, Queue::Inflate, &encode_page(3), &[3], &[], 0);
+    check(rt, device.is_ballooned(3));
+    check(rt, !device.posted_inflate(3));
     device.use_early(3);
     check_place(rt, device, 3, false, true);
 }
 
 // Posts a statistics buffer, and asserts what it says once it is served.
 fn check_report(rt: &impl Abort, device: &mut Device, report: &[u8], want: Stats) {
-    check_post(rt, device, Queue::Statistics, report);
-    check_service(rt, device, &[], &[], 0);
+    check_served(rt, device, Queue::Statistics, report, &[], &[], 0);
     check_stats(rt, device, want);
 }
 
 #[test]
-fn service(rt: HostRuntime) -> Result<(), Fail> {
-    on_device(rt.alloc(), 4, 2, |device| {
-        let three_two_and_a_rest = [3, 0, 0, 0, 2, 0, 0, 0, 3];
-        check_post(&rt, device, Queue::Inflate, &three_two_and_a_rest);
-        check_service(&rt, device, &[3, 2], &[], 1);
-        check_len(&rt, device, 2);
+fn service(rt: HostRuntime) {
+    let mut device = new_device(&rt, rt.alloc(), 4, 2);
+    let three_two_and_a_rest = [3, 0, 0, 0, 2, 0, 0, 0, 3];
+    check_served(
+        &rt,
+        &mut device,
+        Queue::Inflate,
+        &three_two_and_a_rest,
+        &[3, 2],
+        &[],
+        1,
+    );
+    check_len(&rt, &device, 2);
 
-        let past_the_end_and_again = [255, 255, 255, 255, 3, 0, 0, 0];
-        check_post(&rt, device, Queue::Inflate, &past_the_end_and_again);
-        check_service(&rt, device, &[], &[], 2);
+    let past_the_end_and_again = [255, 255, 255, 255, 3, 0, 0, 0];
+    check_served(
+        &rt,
+        &mut device,
+        Queue::Inflate,
+        &past_the_end_and_again,
+        &[],
+        &[],
+        2,
+    );
 
-        check_post(&rt, device, Queue::Deflate, &encode_page(2));
-        check_service(&rt, device, &[], &[2], 0);
-        check_post(&rt, device, Queue::Deflate, &encode_page(2));
-        check_service(&rt, device, &[], &[], 1);
-        Ok(())
-    })
+    check_served(
+        &rt,
+        &mut device,
+        Queue::Deflate,
+        &encode_page(2),
+        &[],
+        &[2],
+        0,
+    );
+    check_served(
+        &rt,
+        &mut device,
+        Queue::Deflate,
+        &encode_page(2),
+        &[],
+        &[],
+        1,
+    );
+    end(device);
 }
 
 #[test]
-fn ballooned_pages_are_listed(rt: HostRuntime) -> Result<(), Fail> {
-    on_device(rt.alloc(), 8, 2, |device| {
-        let six_one_and_four = [6, 0, 0, 0, 1, 0, 0, 0, 4, 0, 0, 0];
-        check_post(&rt, device, Queue::Inflate, &six_one_and_four);
-        check_service(&rt, device, &[6, 1, 4], &[], 0);
-        check_listed(&rt, rt.alloc(), device, 2, &[1, 4])?;
-        check_listed(&rt, rt.alloc(), device, 4, &[1, 4, 6])?;
-        Ok(())
-    })
+fn ballooned_pages_are_listed(rt: HostRuntime) {
+    let mut device = new_device(&rt, rt.alloc(), 8, 2);
+    let six_one_and_four = [6, 0, 0, 0, 1, 0, 0, 0, 4, 0, 0, 0];
+    check_served(
+        &rt,
+        &mut device,
+        Queue::Inflate,
+        &six_one_and_four,
+        &[6, 1, 4],
+        &[],
+        0,
+    );
+    check_listed(&rt, rt.alloc(), &device, 2, &[1, 4]);
+    check_listed(&rt, rt.alloc(), &device, 4, &[1, 4, 6]);
+    end(device);
 }
 
 // What is posted after a service takes the places of what was posted before it, also where it is shorter.
 #[test]
-fn places_are_used_again(rt: HostRuntime) -> Result<(), Fail> {
-    on_device(rt.alloc(), 8, 4, |device| {
-        let six_one_and_four = [6, 0, 0, 0, 1, 0, 0, 0, 4, 0, 0, 0];
-        let nine_in_all = [5, 0, 9, 0, 0, 0, 0, 0, 0, 0];
-        check_posts(
-            &rt,
-            device,
-            &[
-                (Queue::Inflate, &six_one_and_four),
-                (Queue::Inflate, &encode_page(3)),
-                (Queue::Statistics, &nine_in_all),
-            ],
-        );
-        check_service(&rt, device, &[6, 1, 4, 3], &[], 0);
-        check_total(&rt, device, Some(9));
+fn places_are_used_again(rt: HostRuntime) {
+    let mut device = new_device(&rt, rt.alloc(), 8, 4);
+    let six_one_and_four = [6, 0, 0, 0, 1, 0, 0, 0, 4, 0, 0, 0];
+    let nine_in_all = [5, 0, 9, 0, 0, 0, 0, 0, 0, 0];
+    check_posts(
+        &rt,
+        &mut device,
+        &[
+            (Queue::Inflate, &six_one_and_four),
+            (Queue::Inflate, &encode_page(3)),
+            (Queue::Statistics, &nine_in_all),
+        ],
+    );
+    check_service(&rt, &mut device, &[6, 1, 4, 3], &[], 0);
+    check_total(&rt, &device, Some(9));
 
-        check_post(&rt, device, Queue::Inflate, &encode_page(5));
-        check_post(&rt, device, Queue::Statistics, &[5, 0]);
-        check_service(&rt, device, &[5], &[], 0);
-        check_stats(&rt, device, Stats::default());
+    check_post(&rt, &mut device, Queue::Inflate, &encode_page(5));
+    check_served(&rt, &mut device, Queue::Statistics, &[5, 0], &[5], &[], 0);
+    check_stats(&rt, &device, Stats::default());
 
-        let two_and_seven = [2, 0, 0, 0, 7, 0, 0, 0];
-        check_posts(
-            &rt,
-            device,
-            &[
-                (Queue::Inflate, &[]),
-                (Queue::Inflate, &two_and_seven),
-                (Queue::Inflate, &encode_page(0)),
-            ],
-        );
-        check_service(&rt, device, &[2, 7, 0], &[], 0);
-        check_len(&rt, device, 8);
-        Ok(())
-    })
+    let two_and_seven = [2, 0, 0, 0, 7, 0, 0, 0];
+    check_posts(
+        &rt,
+        &mut device,
+        &[
+            (Queue::Inflate, &[]),
+            (Queue::Inflate, &two_and_seven),
+            (Queue::Inflate, &encode_page(0)),
+        ],
+    );
+    check_service(&rt, &mut device, &[2, 7, 0], &[], 0);
+    check_len(&rt, &device, 8);
+    end(device);
 }
 
 #[test]
-fn refused_posts(rt: HostRuntime) -> Result<(), Fail> {
-    on_device(rt.alloc(), 4, 2, |device| {
-        check_post(&rt, device, Queue::Inflate, &[]);
-        check_refusal(&rt, device, Queue::Inflate, &[0; 1025], PostError::TooLong);
-        check_post(&rt, device, Queue::Statistics, &[0; 1024]);
-        check_refusal(&rt, device, Queue::Deflate, &[], PostError::Full);
-        check_refusal(&rt, device, Queue::Deflate, &[0; 1025], PostError::TooLong);
-        Ok(())
-    })
+fn refused_posts(rt: HostRuntime) {
+    let mut device = new_device(&rt, rt.alloc(), 4, 2);
+    check_post(&rt, &mut device, Queue::Inflate, &[]);
+    check_refusal(
+        &rt,
+        &mut device,
+        Queue::Inflate,
+        &[0; 1025],
+        PostError::TooLong,
+    );
+    check_post(&rt, &mut device, Queue::Statistics, &[0; 1024]);
+    check_refusal(&rt, &mut device, Queue::Deflate, &[], PostError::Full);
+    check_refusal(
+        &rt,
+        &mut device,
+        Queue::Deflate,
+        &[0; 1025],
+        PostError::TooLong,
+    );
+    end(device);
 }
 
 // Posts an inflate of page 2 and then its deflate, and asserts how both are posted until they are served.
@@ -220,134 +264,155 @@ fn check_posted_until_served(rt: &impl Abort, device: &mut Device)
 
 // Inflates are served before deflates, whichever was posted first.
 #[test]
-fn inflates_first(rt: HostRuntime) -> Result<(), Fail> {
-    on_device(rt.alloc(), 4, 2, |device| {
-        check_posted_until_served(&rt, device);
-        check_post(&rt, device, Queue::Deflate, &encode_page(2));
-        check_post(&rt, device, Queue::Inflate, &encode_page(2));
-        check_service(&rt, device, &[2], &[2], 0);
-        check_len(&rt, device, 0);
-        Ok(())
-    })
+fn inflates_first(rt: HostRuntime) {
+    let mut device = new_device(&rt, rt.alloc(), 4, 2);
+    check_posted_until_served(&rt, &mut device);
+    check_post(&rt, &mut device, Queue::Deflate, &encode_page(2));
+    check_served(
+        &rt,
+        &mut device,
+        Queue::Inflate,
+        &encode_page(2),
+        &[2],
+        &[2],
+        0,
+    );
+    check_len(&rt, &device, 0);
+    end(device);
 }
 
 #[test]
-fn no_page_in_it(rt: HostRuntime) -> Result<(), Fail> {
-    on_device(rt.alloc(), 4, 20, |device| {
-        check_post(&rt, device, Queue::Inflate, &[255; 1024]);
-        check_service(&rt, device, &[], &[], 256);
-        for queue in [Queue::Inflate, Queue::Deflate, Queue::Statistics] {
-            check_post(&rt, device, queue, &[]);
-        }
-        check_service(&rt, device, &[], &[], 0);
-        check_stats(&rt, device, Stats::default());
-        Ok(())
-    })
+fn no_page_in_it(rt: HostRuntime) {
+    let mut device = new_device(&rt, rt.alloc(), 4, 20);
+    check_post(&rt, &mut device, Queue::Inflate, &[255; 1024]);
+    check_service(&rt, &mut device, &[], &[], 256);
+    for queue in [Queue::Inflate, Queue::Deflate, Queue::Statistics] {
+        check_post(&rt, &mut device, queue, &[]);
+    }
+    check_service(&rt, &mut device, &[], &[], 0);
+    check_stats(&rt, &device, Stats::default());
+    end(device);
 }
 
 #[test]
-fn early_use(rt: HostRuntime) -> Result<(), Fail> {
-    on_device(rt.alloc(), 4, 2, |device| {
-        use_early(&rt, device);
-        check_len(&rt, device, 0);
-        check_post(&rt, device, Queue::Deflate, &encode_page(3));
-        check_service(&rt, device, &[], &[3], 0);
-        check_place(&rt, device, 3, false, false);
-        check_post(&rt, device, Queue::Deflate, &encode_page(3));
-        check_service(&rt, device, &[], &[], 1);
-        Ok(())
-    })
+fn early_use(rt: HostRuntime) {
+    let mut device = new_device(&rt, rt.alloc(), 4, 2);
+    use_early(&rt, &mut device);
+    check_len(&rt, &device, 0);
+    check_served(
+        &rt,
+        &mut device,
+        Queue::Deflate,
+        &encode_page(3),
+        &[],
+        &[3],
+        0,
+    );
+    check_place(&rt, &device, 3, false, false);
+    check_served(
+        &rt,
+        &mut device,
+        Queue::Deflate,
+        &encode_page(3),
+        &[],
+        &[],
+        1,
+    );
+    end(device);
 }
 
 // A page used early is outside the balloon, so an inflate of it is accepted, and its deflate then too.
 #[test]
-fn early_page_inflated(rt: HostRuntime) -> Result<(), Fail> {
-    on_device(rt.alloc(), 4, 2, |device| {
-        use_early(&rt, device);
-        check_post(&rt, device, Queue::Inflate, &encode_page(3));
-        check_posted(&rt, device, 3, true, false);
-        check_post(&rt, device, Queue::Deflate, &encode_page(3));
-        check_service(&rt, device, &[3], &[3], 0);
-        check_len(&rt, device, 0);
+fn early_page_inflated(rt: HostRuntime) {
+    let mut device = new_device(&rt, rt.alloc(), 4, 2);
+    use_early(&rt, &mut device);
+    check_post(&rt, &mut device, Queue::Inflate, &encode_page(3));
+    check_posted(&rt, &device, 3, true, false);
+    check_served(
+        &rt,
+        &mut device,
+        Queue::Deflate,
+        &encode_page(3),
+        &[3],
+        &[3],
+        0,
+    );
+    check_len(&rt, &device, 0);
 
-        // Early is empty after a service, so this deflate is none of a page used early.
-        check_post(&rt, device, Queue::Deflate, &encode_page(3));
-        check_service(&rt, device, &[], &[], 1);
-        Ok(())
-    })
+    // Early is empty after a service, so this deflate is none of a page used early.
+    check_served(
+        &rt,
+        &mut device,
+        Queue::Deflate,
+        &encode_page(3),
+        &[],
+        &[],
+        1,
+    );
+    end(device);
 }
 
 // Asserts how a refusal reads.
-fn check_words(rt: &impl Abort, alloc: Global, refusal: PostError, want: &str) -> Result<(), Fail> {
-    let words = refusal.to_string(alloc)?;
+fn check_words(rt: &impl Abort, alloc: Global, refusal: PostError, want: &str) {
+    let words = refusal.to_string(alloc).expect(rt, "memory");
     check_eq(rt, words.as_str(), want);
-    Ok(())
 }
 
 #[test]
-fn refusals_read(rt: HostRuntime) -> Result<(), Fail> {
-    check_words(&rt, rt.alloc(), PostError::Full, "all buffers are posted")?;
-    check_words(
-        &rt,
-        rt.alloc(),
-        PostError::TooLong,
-        "the buffer is too long",
-    )?;
+fn refusals_read(rt: HostRuntime) {
+    let alloc = rt.alloc();
+    check_words(&rt, alloc, PostError::Full, "all buffers are posted");
+    check_words(&rt, alloc, PostError::TooLong, "the buffer is too long");
     check_eq(&rt, PostError::Full as u8, 1);
     check_eq(&rt, PostError::TooLong as u8, 2);
-    Ok(())
 }
 
 // The tag 99 is none of the seven. What a buffer leaves out is forgotten, and where several came, the last counts.
 #[test]
-fn statistics(rt: HostRuntime) -> Result<(), Fail> {
-    on_device(rt.alloc(), 4, 2, |device| {
-        let total = [5, 0, 0, 0, 1, 0, 0, 0, 0, 0];
-        let free_unknown_total = [
-            4, 0, 0, 16, 0, 0, 0, 0, 0, 0, 99, 0, 1, 0, 0, 0, 0, 0, 0, 0, 5, 0, 0, 32, 0, 0, 0, 0,
-            0, 0,
-        ];
-        let mut want = Stats::default();
-        want.total = Some(65536);
-        check_report(&rt, device, &total, want);
+fn statistics(rt: HostRuntime) {
+    let mut device = new_device(&rt, rt.alloc(), 4, 2);
+    let total = [5, 0, 0, 0, 1, 0, 0, 0, 0, 0];
+    let free_unknown_total = [
+        4, 0, 0, 16, 0, 0, 0, 0, 0, 0, 99, 0, 1, 0, 0, 0, 0, 0, 0, 0, 5, 0, 0, 32, 0, 0, 0, 0, 0, 0,
+    ];
+    let mut want = Stats::default();
+    want.total = Some(65536);
+    check_report(&rt, &mut device, &total, want);
 
-        want.free = Some(4096);
-        want.total = Some(8192);
-        check_post(&rt, device, Queue::Statistics, &total);
-        check_report(&rt, device, &free_unknown_total, want);
-        Ok(())
-    })
+    want.free = Some(4096);
+    want.total = Some(8192);
+    check_post(&rt, &mut device, Queue::Statistics, &total);
+    check_report(&rt, &mut device, &free_unknown_total, want);
+    end(device);
 }
 
 // A tag that comes twice takes the last value, and nine bytes are no entry.
 #[test]
-fn repeated_tags(rt: HostRuntime) -> Result<(), Fail> {
-    on_device(rt.alloc(), 4, 2, |device| {
-        let twice_and_a_rest = [
-            3, 0, 1, 0, 0, 0, 0, 0, 0, 0, 3, 0, 2, 0, 0, 0, 0, 0, 0, 0, 3, 0, 3, 0, 0, 0, 0, 0, 0,
-        ];
-        let mut faults = Stats::default();
-        faults.minor_faults = Some(2);
-        check_report(&rt, device, &twice_and_a_rest, faults);
-        Ok(())
-    })
+fn repeated_tags(rt: HostRuntime) {
+    let mut device = new_device(&rt, rt.alloc(), 4, 2);
+    let twice_and_a_rest = [
+        3, 0, 1, 0, 0, 0, 0, 0, 0, 0, 3, 0, 2, 0, 0, 0, 0, 0, 0, 0, 3, 0, 3, 0, 0, 0, 0, 0, 0,
+    ];
+    let mut faults = Stats::default();
+    faults.minor_faults = Some(2);
+    check_report(&rt, &mut device, &twice_and_a_rest, faults);
+    end(device);
 }
 
 // What was said last stands until more is said, also over services that find no statistics.
 #[test]
-fn statistics_stay(rt: HostRuntime) -> Result<(), Fail> {
-    on_device(rt.alloc(), 4, 2, |device| {
-        let mut want = Stats::default();
-        want.total = Some(9);
-        check_report(&rt, device, &[5, 0, 9, 0, 0, 0, 0, 0, 0, 0], want);
-        check_service(&rt, device, &[], &[], 0);
-        check_stats(&rt, device, want);
-        want.total = Some(7);
-        check_report(&rt, device, &[5, 0, 7, 0, 0, 0, 0, 0, 0, 0], want);
-        check_service(&rt, device, &[], &[], 0);
-        check_stats(&rt, device, want);
-        Ok(())
-    })
+fn statistics_stay(rt: HostRuntime) {
+    let mut device = new_device(&rt, rt.alloc(), 4, 2);
+    let mut want = Stats::default();
+    want.total = Some(9);
+    check_report(&rt, &mut device, &[5, 0, 9, 0, 0, 0, 0, 0, 0, 0], want);
+    check_service(&rt, &mut device, &[], &[], 0);
+    check_stats(&rt, &device, want);
+    want.total = Some(7);
+    check_report(&rt, &mut device, &[5, 0, 7, 0, 0, 0, 0, 0, 0, 0], want);
+    check_service(&rt, &mut device, &[], &[], 0);
+    check_stats(&rt, &device, want);
+    end(device);
 }
 
 #[test]
@@ -375,13 +440,12 @@ fn bytes(rt: HostRuntime) {
 }
 
 #[test]
-fn configuration(rt: HostRuntime) -> Result<(), Fail> {
-    on_device(rt.alloc(), 4, 2, |device| {
-        check_config(&rt, device, [0; 8]);
-        device.set_num_pages(258);
-        device.set_actual(3);
-        check_config(&rt, device, [2, 1, 0, 0, 3, 0, 0, 0]);
-        check_eq(&rt, (device.num_pages(), device.actual()), (258, 3));
-        Ok(())
-    })
+fn configuration(rt: HostRuntime) {
+    let mut device = new_device(&rt, rt.alloc(), 4, 2);
+    check_config(&rt, &device, [0; 8]);
+    device.set_num_pages(258);
+    device.set_actual(3);
+    check_config(&rt, &device, [2, 1, 0, 0, 3, 0, 0, 0]);
+    check_eq(&rt, (device.num_pages(), device.actual()), (258, 3));
+    end(device);
 }

@@ -1,14 +1,22 @@
 // Pages and the frames under them.
-ghost use Rattle.std.specs.Prelude.{◌≡◌, ◌<◌, ◌≤◌, length};
-ghost use Rattle.vm_pagemap.specs.PageMap.{IsIn, page_at};
+ghost use Rattle.std.specs.Prelude.{◌≡◌, ◌+◌, ◌<◌, ◌≤◌, length};
+ghost use Rattle.vm_pagemap.specs.PageMap.{IsIn, IsNotIn, page_at};
 
-use super::check_eq;
-use super::frames::close_machine;
+use super::frames::{give_only, give_two, only_frame, two_frames};
+use super::swap::check_room;
+use super::{check, check_eq, check_number};
+use std::alloc::Global;
 use std::process::Abort;
-use vm_frames::{Frame, Machine, PAGE_BYTES};
 use vm_pagemap::{PageMap, Place};
 use vm_patches::PatchedFrame;
-use vm_swap::{PAGE_LIMIT, SwapArea};
+use vm_swap::SwapArea;
+
+// A map of eight pages.
+fn eight_pages(rt: &impl Abort, alloc: Global) -> PageMap
+    ensures { length result ≡ 8 }
+{
+    PageMap::new(alloc, 8).expect(rt, "memory")
+}
 
 // The pages that are in, least first.
 fn check_resident(rt: &impl Abort, map: &PageMap, pages: &[u32]) {
@@ -20,119 +28,175 @@ fn check_resident(rt: &impl Abort, map: &PageMap, pages: &[u32]) {
 }
 
 fn check_place(rt: &impl Abort, map: &PageMap, page: u32, place: Place)
-    requires { page < length map.now }
+    requires page { page < 8 }
+    requires size { length map.now ≡ 8 }
 {
     check_eq(rt, map.place(page), place);
 }
 
-fn check_bytes(rt: &impl Abort, map: &PageMap)
-    requires in_range { 2 < length map.now }
-    requires is_in { IsIn (page_at map.now 2) }
+// The page is in, for what comes after to rely on.
+fn check_in(rt: &impl Abort, map: &PageMap, page: u32)
+    requires page { page < 8 }
+    requires size { length map.now ≡ 8 }
+    ensures { IsIn (page_at map.now page) }
 {
-    let mut bytes = [0; 3];
-    map.read(2, 4093, &mut bytes);
-    check_eq(rt, bytes, [0, 7, 8]);
+    check(rt, map.place(page) == Place::In);
+}
+
+// The page is not in, for what comes after to rely on.
+fn check_not_in(rt: &impl Abort, map: &PageMap, page: u32)
+    requires page { page < 8 }
+    requires size { length map.now ≡ 8 }
+    ensures { IsNotIn (page_at map.now page) }
+{
+    check(rt, map.place(page) != Place::In);
+}
+
+// Three bytes of a page that is in.
+fn check_bytes(rt: &impl Abort, map: &PageMap, page: u32, wanted: [u8; 3])
+    requires page { page < 8 }
+    requires size { length map.now ≡ 8 }
+{
+    check_in(rt, map, page);
+    let mut bytes = [1; 3];
+    map.read(page, 4093, &mut bytes);
+    check_eq(rt, bytes, wanted);
+}
+
+// Puts a frame under a page that has none.
+fn put_frame(rt: &impl Abort, map: &mut PageMap, page: u32, frame: PatchedFrame)
+    requires page { page < 8 }
+    requires size { length map.old ≡ 8 }
+    ensures { length map.new ≡ 8 }
+{
+    check_not_in(rt, map, page);
+    map.put_frame(page, frame);
+}
+
+// Writes to a page that is in.
+fn write(rt: &impl Abort, map: &mut PageMap, page: u32, offset: usize, bytes: &[u8])
+    requires page { page < 8 }
+    requires size { length map.old ≡ 8 }
+    requires within { offset + length bytes.now ≤ 4096 }
+    ensures { length map.new ≡ 8 }
+{
+    check_in(rt, map, page);
+    map.write(page, offset, bytes);
+}
+
+// Takes the frame from under a page.
+fn remove_frame(rt: &impl Abort, map: &mut PageMap, page: u32) -> PatchedFrame
+    requires page { page < 8 }
+    requires size { length map.old ≡ 8 }
+    ensures { length map.new ≡ 8 }
+{
+    check_in(rt, map, page);
+    map.remove_frame(page)
+}
+
+// Marks a page that is not in as swapped out.
+fn mark_out(rt: &impl Abort, map: &mut PageMap, page: u32)
+    requires page { page < 8 }
+    requires size { length map.old ≡ 8 }
+    ensures { length map.new ≡ 8 }
+{
+    check_not_in(rt, map, page);
+    map.mark_out(page);
+}
+
+// Marks a page that is not in as nowhere.
+fn mark_absent(rt: &impl Abort, map: &mut PageMap, page: u32)
+    requires page { page < 8 }
+    requires size { length map.old ≡ 8 }
+    ensures { length map.new ≡ 8 }
+{
+    check_not_in(rt, map, page);
+    map.mark_absent(page);
+}
+
+// Ends a map with no page in.
+fn close_empty(rt: &impl Abort, map: PageMap) {
+    check_number(rt, map.resident(), 0);
+    map.close();
 }
 
 #[test]
 fn pages_are_listed_in_order(rt: HostRuntime) {
-    let mut machine = Machine::new(rt.alloc(), 2).expect(&rt, "memory");
-    let mut map = PageMap::new(rt.alloc(), 8).expect(&rt, "memory");
-    let first = machine.take().expect(&rt, "a free frame");
-    let second = machine.take().expect(&rt, "a free frame");
-    map.put_frame(5, PatchedFrame::new(first));
-    map.put_frame(2, PatchedFrame::new(second));
+    let (machine, first, second) = two_frames(&rt, rt.alloc());
+    let numbers = (first.number(), second.number());
+    let mut map = eight_pages(&rt, rt.alloc());
+    put_frame(&rt, &mut map, 5, PatchedFrame::new(first));
+    put_frame(&rt, &mut map, 2, PatchedFrame::new(second));
     check_resident(&rt, &map, &[2, 5]);
-    let first = map.remove_frame(5);
+    let first = remove_frame(&rt, &mut map, 5);
     check_resident(&rt, &map, &[2]);
-    let second = map.remove_frame(2);
-    machine.give(first.into_frame());
-    machine.give(second.into_frame());
-    map.close();
-    close_machine(&rt, machine, 2);
+    let second = remove_frame(&rt, &mut map, 2);
+    close_empty(&rt, map);
+    give_two(
+        &rt,
+        machine,
+        first.into_frame(),
+        second.into_frame(),
+        numbers,
+    );
 }
 
 #[test]
 fn pages_come_and_go(rt: HostRuntime) {
-    let mut machine = Machine::new(rt.alloc(), 1).expect(&rt, "memory");
-    let mut map = PageMap::new(rt.alloc(), 4).expect(&rt, "memory");
-    if let Some(frame) = machine.take() {
-        map.put_frame(2, PatchedFrame::new(frame));
-        map.write(2, 4094, &[7, 8]);
-        check_bytes(&rt, &map);
-        check_place(&rt, &map, 2, Place::In);
-        check_resident(&rt, &map, &[2]);
-        let frame = map.remove_frame(2);
-        map.mark_out(2);
-        check_place(&rt, &map, 2, Place::Out);
-        map.mark_absent(2);
-        machine.give(frame.release());
-    }
+    let (machine, frame) = only_frame(&rt, rt.alloc());
+    let mut map = eight_pages(&rt, rt.alloc());
+    put_frame(&rt, &mut map, 2, PatchedFrame::new(frame));
+    write(&rt, &mut map, 2, 4094, &[7, 8]);
+    check_bytes(&rt, &map, 2, [0, 7, 8]);
+    check_place(&rt, &map, 2, Place::In);
+    check_resident(&rt, &map, &[2]);
+    let frame = remove_frame(&rt, &mut map, 2);
+    mark_out(&rt, &mut map, 2);
+    check_place(&rt, &map, 2, Place::Out);
+    mark_absent(&rt, &mut map, 2);
     check_resident(&rt, &map, &[]);
     check_place(&rt, &map, 2, Place::Absent);
-    map.close();
-    close_machine(&rt, machine, 1);
+    close_empty(&rt, map);
+    give_only(&rt, machine, frame.release());
 }
 
 // Lets a page take the frame of another one, where there is room for that in the swap area.
 fn exchange(rt: &impl Abort, map: &mut PageMap, area: &mut SwapArea, page: u32, victim: u32)
-    requires page { page < length map.old }
-    requires victim { victim < length map.old }
-    requires few { length map.old ≤ PAGE_LIMIT }
-    ensures { length map.new ≡ length map.old }
+    requires page { page < 8 }
+    requires victim { victim < 8 }
+    requires size { length map.old ≡ 8 }
+    ensures { length map.new ≡ 8 }
 {
-    assert!(rt; map.place(page) != Place::In && map.place(victim) == Place::In);
-    let mut buffer = [0; PAGE_BYTES];
-    assert!(rt; !area.get_into(victim, &mut buffer));
-    assert!(rt; area.len() < area.capacity());
+    check_not_in(rt, map, page);
+    check_in(rt, map, victim);
+    check_room(rt, area, victim);
     map.exchange(page, victim, area);
-}
-
-// Takes a page's frame, which is that of this number.
-fn take_frame(rt: &impl Abort, map: &mut PageMap, page: u32, number: u32) -> Frame
-    requires { page < length map.old }
-    ensures { result.number ≡ number }
-{
-    assert!(rt; map.place(page) == Place::In);
-    let frame = map.remove_frame(page).release();
-    assert!(rt; frame.number() == number);
-    frame
 }
 
 // Asserts that this page is in and no other, three of its bytes, and that one page is swapped out.
 fn check_exchanged(rt: &impl Abort, map: &PageMap, area: &SwapArea, page: u32, bytes: [u8; 3])
-    requires { page < length map.now }
+    requires page { page < 8 }
+    requires size { length map.now ≡ 8 }
 {
     check_resident(rt, map, &[page]);
-    assert!(rt; map.place(page) == Place::In);
-    let mut found = [1; 3];
-    map.read(page, 4093, &mut found);
-    check_eq(rt, (found, area.len()), (bytes, 1));
+    check_bytes(rt, map, page, bytes);
+    check_eq(rt, area.len(), 1);
 }
 
 #[test]
-#[tactic(auto, using(vm_frames::proofs::NumberSets::set_members))]
 fn pages_are_exchanged(rt: HostRuntime) {
-    let mut machine = Machine::new(rt.alloc(), 1).expect(&rt, "memory");
+    let (machine, frame) = only_frame(&rt, rt.alloc());
     let mut area = SwapArea::new(rt.alloc(), 2).expect(&rt, "memory");
-    let mut map = PageMap::new(rt.alloc(), 4).expect(&rt, "memory");
-    let frame = machine.take().expect(&rt, "a free frame");
-    let number = frame.number();
-    map.put_frame(2, PatchedFrame::new(frame));
-    map.write(2, 4094, &[7, 8]);
+    let mut map = eight_pages(&rt, rt.alloc());
+    put_frame(&rt, &mut map, 2, PatchedFrame::new(frame));
+    write(&rt, &mut map, 2, 4094, &[7, 8]);
     exchange(&rt, &mut map, &mut area, 0, 2);
     check_exchanged(&rt, &map, &area, 0, [0, 0, 0]);
     check_place(&rt, &map, 2, Place::Out);
     exchange(&rt, &mut map, &mut area, 2, 0);
     check_exchanged(&rt, &map, &area, 2, [0, 7, 8]);
     check_place(&rt, &map, 0, Place::Out);
-    machine.give(take_frame(&rt, &mut map, 2, number));
+    let frame = remove_frame(&rt, &mut map, 2);
     close_empty(&rt, map);
-    close_machine(&rt, machine, 1);
-}
-
-// Ends a map with no page in.
-fn close_empty(rt: &impl Abort, map: PageMap) {
-    assert!(rt; map.resident() == 0);
-    map.close();
+    give_only(&rt, machine, frame.release());
 }

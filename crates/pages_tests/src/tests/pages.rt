@@ -1,7 +1,7 @@
 // Sets of pages.
-ghost use Rattle.std.specs.Prelude.{◌≡◌, ◌<◌, ◌≤◌, All, length, vec_capacity};
+ghost use Rattle.std.specs.Prelude.{◌≡◌, ◌<◌, All, length};
 
-use super::check_eq;
+use super::{check, check_eq};
 use std::alloc::Global;
 use std::process::Abort;
 use vm_pages::{PageMarks, PageSet};
@@ -15,146 +15,206 @@ fn check_pages(rt: &impl Abort, set: &PageSet, pages: &[u32]) {
     }
 }
 
-// Asserts which the greatest pages of a set are.
-fn check_greatest(rt: &impl Abort, set: &PageSet, most: u32, pages: &mut Vec<u32>, want: &[u32])
-    requires { most ≤ vec_capacity pages.old }
-    ensures { vec_capacity pages.new ≡ vec_capacity pages.old }
-{
-    set.list_greatest(most, pages);
+// Asserts which the greatest pages of a set are. What a list had before has to go.
+fn check_greatest(rt: &impl Abort, alloc: Global, set: &PageSet, most: u32, want: &[u32]) {
+    let mut pages = Vec::with_capacity(alloc, most as usize).expect(rt, "memory");
+    set.list_least(most, &mut pages);
+    set.list_greatest(most, &mut pages);
     check_eq(rt, pages.as_slice(), want);
 }
 
-// Asserts which the least pages of a set are.
-fn check_least(rt: &impl Abort, set: &PageSet, most: u32, pages: &mut Vec<u32>, want: &[u32])
-    requires { most ≤ vec_capacity pages.old }
-    ensures { vec_capacity pages.new ≡ vec_capacity pages.old }
-{
-    set.list_least(most, pages);
+// Asserts which the least pages of a set are. What a list had before has to go.
+fn check_least(rt: &impl Abort, alloc: Global, set: &PageSet, most: u32, want: &[u32]) {
+    let mut pages = Vec::with_capacity(alloc, most as usize).expect(rt, "memory");
+    set.list_greatest(most, &mut pages);
+    set.list_least(most, &mut pages);
     check_eq(rt, pages.as_slice(), want);
 }
+
+// Adds pages, and asserts that each of them is new.
+fn check_inserts(rt: &impl Abort, set: &mut PageSet, size: u32, pages: &[u32])
+    requires { length set.old ≡ size }
+    ensures { length set.new ≡ size }
+{
+    for &page in pages {
+        check(rt, page < size);
+        check_eq(rt, set.insert(page), true);
+    }
+}
+
+// Takes pages out, and asserts that each of them was there.
+fn check_removes(rt: &impl Abort, set: &mut PageSet, size: u32, pages: &[u32])
+    requires { length set.old ≡ size }
+    ensures { length set.new ≡ size }
+{
+    for &page in pages {
+        check(rt, page < size);
+        check_eq(rt, set.remove(page), true);
+    }
+}
+
+// Asserts which page stands at a place.
+fn check_nth(rt: &impl Abort, set: &PageSet, place: u32, page: u32) {
+    check(rt, place < set.len());
+    check_eq(rt, set.nth(place), page);
+}
+
+// A set of no pages, of so many that there may be.
+fn no_pages(rt: &impl Abort, alloc: Global, size: u32) -> PageSet
+    ensures { length result ≡ size }
+{
+    PageSet::new(alloc, size).expect(rt, "memory")
+}
+
+// A set of all of so many pages.
+fn all_pages(rt: &impl Abort, alloc: Global, size: u32) -> PageSet
+    ensures { length result ≡ size }
+{
+    PageSet::all(alloc, size).expect(rt, "memory")
+}
+
+// Ends a set. It stands here once, since a function that owns one is proved to free its parts where it ends.
+fn end(_set: PageSet) {}
 
 #[test]
 fn pages_are_listed_in_order(rt: HostRuntime) {
-    let mut set = PageSet::new(rt.alloc(), 600).expect(&rt, "memory");
+    let mut set = no_pages(&rt, rt.alloc(), 600);
     check_eq(&rt, set.is_empty(), true);
-    check_eq(&rt, set.insert(599), true);
-    check_eq(&rt, set.insert(0), true);
-    check_eq(&rt, set.insert(256), true);
-    check_eq(&rt, set.insert(255), true);
+    check_inserts(&rt, &mut set, 600, &[599, 0, 256, 255]);
     check_pages(&rt, &set, &[0, 255, 256, 599]);
     check_eq(&rt, set.insert(0), false);
-    check_eq(&rt, set.remove(255), true);
+    check_removes(&rt, &mut set, 600, &[255]);
     check_eq(&rt, set.contains(256), true);
     check_pages(&rt, &set, &[0, 256, 599]);
+    end(set);
 }
 
 #[test]
 fn extremes_are_listed_over_blocks(rt: HostRuntime) {
-    let mut set = PageSet::new(rt.alloc(), 600).expect(&rt, "memory");
-    check_eq(&rt, set.insert(256), true);
-    check_eq(&rt, set.insert(0), true);
-    check_eq(&rt, set.insert(599), true);
-    check_eq(&rt, set.insert(255), true);
-    let mut pages = Vec::with_capacity(rt.alloc(), 8).expect(&rt, "memory");
-    check_greatest(&rt, &set, 3, &mut pages, &[599, 256, 255]);
-    check_least(&rt, &set, 2, &mut pages, &[0, 255]);
-    check_greatest(&rt, &set, 8, &mut pages, &[599, 256, 255, 0]);
-    check_least(&rt, &set, 8, &mut pages, &[0, 255, 256, 599]);
-    check_greatest(&rt, &set, 0, &mut pages, &[]);
+    let alloc = rt.alloc();
+    let mut set = no_pages(&rt, alloc, 600);
+    check_inserts(&rt, &mut set, 600, &[256, 0, 599, 255]);
+    check_greatest(&rt, alloc, &set, 3, &[599, 256, 255]);
+    check_least(&rt, alloc, &set, 2, &[0, 255]);
+    check_greatest(&rt, alloc, &set, 8, &[599, 256, 255, 0]);
+    check_least(&rt, alloc, &set, 8, &[0, 255, 256, 599]);
+    check_greatest(&rt, alloc, &set, 0, &[]);
+    end(set);
 }
 
 #[test]
 fn all_pages_are_there(rt: HostRuntime) {
-    let mut set = PageSet::all(rt.alloc(), 600).expect(&rt, "memory");
+    let alloc = rt.alloc();
+    let mut set = all_pages(&rt, alloc, 600);
     check_eq(&rt, set.len(), 600);
     check_eq(&rt, set.insert(599), false);
-    check_eq(&rt, set.remove(598), true);
-    check_eq(&rt, set.remove(256), true);
+    check_removes(&rt, &mut set, 600, &[598, 256]);
     check_eq(&rt, set.len(), 598);
-    let mut pages = Vec::with_capacity(rt.alloc(), 8).expect(&rt, "memory");
-    check_greatest(&rt, &set, 3, &mut pages, &[599, 597, 596]);
-    check_least(&rt, &set, 3, &mut pages, &[0, 1, 2]);
+    check_greatest(&rt, alloc, &set, 3, &[599, 597, 596]);
+    check_least(&rt, alloc, &set, 3, &[0, 1, 2]);
+    end(set);
 }
 
 #[test]
 fn pages_are_found_over_words_and_blocks(rt: HostRuntime) {
-    let mut set = PageSet::new(rt.alloc(), 2200).expect(&rt, "memory");
-    check_eq(&rt, set.insert(2048), true);
-    check_eq(&rt, set.insert(2199), true);
-    check_eq(&rt, set.insert(63), true);
-    check_eq(&rt, set.insert(2047), true);
-    check_eq(&rt, set.insert(64), true);
+    let alloc = rt.alloc();
+    let mut set = no_pages(&rt, alloc, 2200);
+    check_inserts(&rt, &mut set, 2200, &[2048, 2199, 63, 2047, 64]);
     check_pages(&rt, &set, &[63, 64, 2047, 2048, 2199]);
-    let mut pages = Vec::with_capacity(rt.alloc(), 8).expect(&rt, "memory");
-    check_greatest(&rt, &set, 4, &mut pages, &[2199, 2048, 2047, 64]);
-    check_least(&rt, &set, 4, &mut pages, &[63, 64, 2047, 2048]);
-    check_greatest(&rt, &set, 8, &mut pages, &[2199, 2048, 2047, 64, 63]);
-    check_least(&rt, &set, 8, &mut pages, &[63, 64, 2047, 2048, 2199]);
-    check_eq(&rt, set.remove(2047), true);
+    check_greatest(&rt, alloc, &set, 4, &[2199, 2048, 2047, 64]);
+    check_least(&rt, alloc, &set, 4, &[63, 64, 2047, 2048]);
+    check_greatest(&rt, alloc, &set, 8, &[2199, 2048, 2047, 64, 63]);
+    check_least(&rt, alloc, &set, 8, &[63, 64, 2047, 2048, 2199]);
+    check_removes(&rt, &mut set, 2200, &[2047]);
     check_pages(&rt, &set, &[63, 64, 2048, 2199]);
-    check_eq(&rt, set.remove(64), true);
-    check_eq(&rt, set.remove(2199), true);
-    check_greatest(&rt, &set, 8, &mut pages, &[2048, 63]);
-    check_least(&rt, &set, 1, &mut pages, &[63]);
+    check_removes(&rt, &mut set, 2200, &[64, 2199]);
+    check_greatest(&rt, alloc, &set, 8, &[2048, 63]);
+    check_least(&rt, alloc, &set, 1, &[63]);
+    end(set);
 }
 
 #[test]
 fn pages_are_found_within_words(rt: HostRuntime) {
-    let mut set = PageSet::all(rt.alloc(), 130).expect(&rt, "memory");
+    let alloc = rt.alloc();
+    let mut set = all_pages(&rt, alloc, 130);
     for place in 0..130 {
-        check_eq(&rt, set.nth(place), place);
+        check_nth(&rt, &set, place, place);
     }
-    let mut pages = Vec::with_capacity(rt.alloc(), 4).expect(&rt, "memory");
-    check_greatest(&rt, &set, 4, &mut pages, &[129, 128, 127, 126]);
-    check_eq(&rt, set.remove(0), true);
-    check_eq(&rt, set.remove(64), true);
-    check_eq(&rt, set.remove(127), true);
-    check_eq(&rt, set.nth(0), 1);
-    check_eq(&rt, set.nth(62), 63);
-    check_eq(&rt, set.nth(63), 65);
-    check_eq(&rt, set.nth(124), 126);
-    check_eq(&rt, set.nth(125), 128);
-    check_greatest(&rt, &set, 4, &mut pages, &[129, 128, 126, 125]);
-    check_least(&rt, &set, 2, &mut pages, &[1, 2]);
+    check_greatest(&rt, alloc, &set, 4, &[129, 128, 127, 126]);
+    check_removes(&rt, &mut set, 130, &[0, 64, 127]);
+    for (place, page) in [(0, 1), (62, 63), (63, 65), (124, 126), (125, 128)] {
+        check_nth(&rt, &set, place, page);
+    }
+    check_greatest(&rt, alloc, &set, 4, &[129, 128, 126, 125]);
+    check_least(&rt, alloc, &set, 2, &[1, 2]);
+    end(set);
+}
+
+// Asserts which the greatest pages of a set of all of so many pages are.
+fn check_last(rt: &impl Abort, alloc: Global, size: u32, most: u32, greatest: &[u32]) {
+    let set = all_pages(rt, alloc, size);
+    check_eq(rt, set.len(), size);
+    check_greatest(rt, alloc, &set, most, greatest);
+    for &page in greatest {
+        check_nth(rt, &set, page, page);
+    }
+    end(set);
 }
 
 #[test]
 fn sets_end_at_words_and_blocks(rt: HostRuntime) {
-    let mut pages = Vec::with_capacity(rt.alloc(), 4).expect(&rt, "memory");
-    let word = PageSet::all(rt.alloc(), 64).expect(&rt, "memory");
-    check_greatest(&rt, &word, 2, &mut pages, &[63, 62]);
-    check_eq(&rt, word.nth(63), 63);
-    let more = PageSet::all(rt.alloc(), 65).expect(&rt, "memory");
-    check_greatest(&rt, &more, 3, &mut pages, &[64, 63, 62]);
-    check_eq(&rt, more.nth(64), 64);
-    let block = PageSet::all(rt.alloc(), 2048).expect(&rt, "memory");
-    check_greatest(&rt, &block, 2, &mut pages, &[2047, 2046]);
-    check_eq(&rt, block.nth(2047), 2047);
-    let longer = PageSet::all(rt.alloc(), 2049).expect(&rt, "memory");
-    check_eq(&rt, longer.len(), 2049);
-    check_greatest(&rt, &longer, 2, &mut pages, &[2048, 2047]);
-    check_eq(&rt, longer.nth(2047), 2047);
-    check_eq(&rt, longer.nth(2048), 2048);
+    let alloc = rt.alloc();
+    check_last(&rt, alloc, 64, 2, &[63, 62]);
+    check_last(&rt, alloc, 65, 3, &[64, 63, 62]);
+    check_last(&rt, alloc, 2048, 2, &[2047, 2046]);
+    check_last(&rt, alloc, 2049, 2, &[2048, 2047]);
+}
+
+// The same pages, each of which is one of so many.
+fn pages_below(rt: &impl Abort, alloc: Global, size: u32, pages: &[u32]) -> Vec<u32>
+    ensures { All (λ page. page < size) result.items }
+{
+    let mut below = Vec::new(alloc);
+    for &page in pages {
+        check(rt, page < size);
+        below.push(page).expect(rt, "memory");
+    }
+    below
+}
+
+// Takes pages out of a set at once.
+fn remove_all(rt: &impl Abort, alloc: Global, set: &mut PageSet, size: u32, pages: &[u32])
+    requires { length set.old ≡ size }
+    ensures { length set.new ≡ size }
+{
+    let below = pages_below(rt, alloc, size, pages);
+    set.remove_all(&below);
 }
 
 #[test]
 fn listed_pages_leave_a_set(rt: HostRuntime) {
-    let mut set = PageSet::new(rt.alloc(), 5000).expect(&rt, "memory");
-    set.insert(0);
-    set.insert(63);
-    set.insert(64);
-    set.insert(65);
-    set.insert(127);
-    set.insert(2047);
-    set.insert(2048);
-    set.insert(4999);
-    set.remove_all(&[]);
+    let alloc = rt.alloc();
+    let mut set = no_pages(&rt, alloc, 5000);
+    check_inserts(&rt, &mut set, 5000, &[0, 63, 64, 65, 127, 2047, 2048, 4999]);
+    remove_all(&rt, alloc, &mut set, 5000, &[]);
     check_eq(&rt, set.len(), 8);
     // In one word and beyond it, over blocks, one twice and one that isn't there.
-    set.remove_all(&[64, 65, 64, 66, 63, 2047, 2048]);
+    let listed = [64, 65, 64, 66, 63, 2047, 2048];
+    remove_all(&rt, alloc, &mut set, 5000, &listed);
     check_pages(&rt, &set, &[0, 127, 4999]);
-    set.remove_all(&[4999, 0, 127]);
+    remove_all(&rt, alloc, &mut set, 5000, &[4999, 0, 127]);
     check_pages(&rt, &set, &[]);
+    end(set);
+}
+
+// Asserts which of these pages, of 130, are marked.
+fn check_marks(rt: &impl Abort, marks: &PageMarks, pages: &[(u32, bool)])
+    requires { length marks.now ≡ 130 }
+{
+    for &(page, marked) in pages {
+        check(rt, page < 130);
+        check_eq(rt, (page, marks.contains(page)), (page, marked));
+    }
 }
 
 #[test]
@@ -164,16 +224,11 @@ fn pages_are_marked(rt: HostRuntime) {
     marks.insert(64);
     marks.insert(129);
     marks.insert(64);
-    check_eq(&rt, (marks.contains(63), marks.contains(64)), (true, true));
-    check_eq(
-        &rt,
-        (marks.contains(62), marks.contains(129)),
-        (false, true),
-    );
+    let inserted = [(63, true), (64, true), (62, false), (129, true)];
+    check_marks(&rt, &marks, &inserted);
     marks.remove(64);
     marks.remove(0);
-    check_eq(&rt, (marks.contains(63), marks.contains(64)), (true, false));
-    check_eq(&rt, marks.contains(129), true);
+    check_marks(&rt, &marks, &[(63, true), (64, false), (129, true)]);
 }
 
 // The next number of a linear congruential generator. Its upper bits are the better ones.
@@ -200,7 +255,6 @@ fn add_pages(rt: &impl Abort, set: &mut PageSet, size: u32, gap: u32, pages: &mu
 // Draws pages, and with each of them one before it in its word.
 fn draw_pages(rt: &impl Abort, alloc: Global, size: u32, count: u32) -> Vec<u32>
     requires { 0 < size }
-    ensures { All (λ page. page < size) result.items }
 {
     let mut pages = Vec::new(alloc);
     let mut number = count;
@@ -217,7 +271,8 @@ fn draw_pages(rt: &impl Abort, alloc: Global, size: u32, count: u32) -> Vec<u32>
 fn check_ends(rt: &impl Abort, alloc: Global, set: &PageSet, pages: &[u32], most: u32) {
     let mut listed = Vec::with_capacity(alloc, most as usize).expect(rt, "memory");
     let count = pages.len().min(most as usize);
-    check_least(rt, set, most, &mut listed, &pages[..count]);
+    set.list_least(most, &mut listed);
+    check_eq(rt, listed.as_slice(), &pages[..count]);
     set.list_greatest(most, &mut listed);
     listed.reverse();
     check_eq(rt, listed.as_slice(), &pages[pages.len() - count..]);
@@ -239,7 +294,7 @@ fn check_removal(rt: &impl Abort, alloc: Global, set: &mut PageSet, size: u32, p
     requires size { length set.old ≡ size }
 {
     let drawn = draw_pages(rt, alloc, size, size / 4);
-    set.remove_all(&drawn);
+    remove_all(rt, alloc, set, size, &drawn);
     pages.retain(|page| !drawn.contains(page));
     check_listings(rt, alloc, set, pages);
 }
@@ -249,7 +304,7 @@ fn check_made_set(rt: &impl Abort, alloc: Global, size: u32, gap: u32)
     requires some { 0 < size }
     requires gap { 0 < gap }
 {
-    let mut set = PageSet::new(alloc, size).expect(rt, "memory");
+    let mut set = no_pages(rt, alloc, size);
     let mut pages = Vec::new(alloc);
     add_pages(rt, &mut set, size, gap, &mut pages);
     check_listings(rt, alloc, &set, &pages);

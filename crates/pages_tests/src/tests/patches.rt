@@ -2,9 +2,9 @@
 ghost use Rattle.std.specs.Prelude.{◌≡◌, ◌+◌, ◌≤◌, length};
 
 use super::check_eq;
-use super::frames::close_machine;
+use super::frames::{give_only, only_frame};
 use std::process::Abort;
-use vm_frames::{Frame, Machine, PAGE_BYTES};
+use vm_frames::{Frame, PAGE_BYTES};
 use vm_patches::{Log, Patch, PatchedFrame};
 
 // Five bytes of a page.
@@ -34,18 +34,14 @@ fn later_writes_cover_earlier_ones(rt: HostRuntime) {
 }
 
 // The page has more bytes than a patch has room for, and keeps them.
-fn check_no_patch(rt: &impl Abort, page: &mut PatchedFrame)
-    ensures { page.new.number ≡ page.old.number }
-{
+fn check_no_patch(rt: &impl Abort, page: &mut PatchedFrame) {
     check_eq(rt, page.take_patch().is_none(), true);
 }
 
 // Thirteen bytes outgrow a patch, and a log has room for them.
 #[test]
-#[tactic(auto, using(vm_frames::proofs::NumberSets::set_members))]
 fn a_page_outgrows_its_patch(rt: HostRuntime) {
-    let mut machine = Machine::new(rt.alloc(), 1).expect(&rt, "memory");
-    let frame = machine.take().expect(&rt, "a free frame");
+    let (machine, frame) = only_frame(&rt, rt.alloc());
     let number = frame.number();
     let mut page = PatchedFrame::new(frame);
     page.write(4086, &[1, 2, 3, 4, 5, 6, 7, 8, 9, 10]);
@@ -61,20 +57,17 @@ fn a_page_outgrows_its_patch(rt: HostRuntime) {
     // The frame's bytes are the page's, where it is mapped again.
     let page = PatchedFrame::new(frame);
     check_five(&rt, &page, 4083, [0, 0, 11, 12, 13]);
-    machine.give(page.release());
-    close_machine(&rt, machine, 1);
+    give_only(&rt, machine, page.release());
 }
 
 #[test]
-#[tactic(auto, using(vm_frames::proofs::NumberSets::set_members))]
 fn a_patch_comes_with_its_frame(rt: HostRuntime) {
-    let mut machine = Machine::new(rt.alloc(), 1).expect(&rt, "memory");
-    let mut page = PatchedFrame::new(machine.take().expect(&rt, "a free frame"));
+    let (machine, frame) = only_frame(&rt, rt.alloc());
+    let mut page = PatchedFrame::new(frame);
     page.write(2, &[5]);
     let frame = page.into_frame();
     check_eq(&rt, [frame.bytes()[1], frame.bytes()[2]], [0, 5]);
-    machine.give(frame);
-    close_machine(&rt, machine, 1);
+    give_only(&rt, machine, frame);
 }
 
 // Each byte of a page, in the order of offsets.
@@ -87,7 +80,6 @@ pub(super) fn check_page(rt: &impl Abort, page: &PatchedFrame, wanted: &[u8; PAG
 // Writes bytes to a page, and the same to an array beside it.
 fn write_both(page: &mut PatchedFrame, wanted: &mut [u8; PAGE_BYTES], offset: usize, bytes: &[u8])
     requires { offset + length bytes.now ≤ PAGE_BYTES }
-    ensures { page.new.number ≡ page.old.number }
 {
     page.write(offset, bytes);
     wanted[offset..offset + bytes.len()].copy_from_slice(bytes);
@@ -95,9 +87,7 @@ fn write_both(page: &mut PatchedFrame, wanted: &mut [u8; PAGE_BYTES], offset: us
 
 // A page that has one byte more than a patch has room for, then bytes on both sides of the borders of lines, and then a stretch
 // that no log has room for.
-fn outgrow(rt: &impl Abort, page: &mut PatchedFrame)
-    ensures { page.new.number ≡ page.old.number }
-{
+fn outgrow(rt: &impl Abort, page: &mut PatchedFrame) {
     let mut wanted = [0; PAGE_BYTES];
     write_both(
         page,
@@ -119,10 +109,8 @@ fn outgrow(rt: &impl Abort, page: &mut PatchedFrame)
 }
 
 #[test]
-#[tactic(auto, using(vm_frames::proofs::NumberSets::set_members))]
 fn a_frame_shows_the_lines_that_were_written(rt: HostRuntime) {
-    let mut machine = Machine::new(rt.alloc(), 1).expect(&rt, "memory");
-    let mut frame = machine.take().expect(&rt, "a free frame");
+    let (machine, mut frame) = only_frame(&rt, rt.alloc());
     *frame.bytes_mut() = [255; PAGE_BYTES];
     let mut page = PatchedFrame::new(frame);
     page.set_patch(Patch::new());
@@ -138,8 +126,7 @@ fn a_frame_shows_the_lines_that_were_written(rt: HostRuntime) {
         [0, 1, 2, 0],
     );
     check_five(&rt, &page, 62, [7, 7, 7, 7, 7]);
-    machine.give(page.release());
-    close_machine(&rt, machine, 1);
+    give_only(&rt, machine, page.release());
 }
 
 // A stretch of a log, and whether it has room.
@@ -183,24 +170,18 @@ fn a_log_has_seventy_six_bytes(rt: HostRuntime) {
 }
 
 // The page's bytes are in a log.
-fn check_in_log(rt: &impl Abort, page: &mut PatchedFrame)
-    ensures { page.new.number ≡ page.old.number }
-{
+fn check_in_log(rt: &impl Abort, page: &mut PatchedFrame) {
     let log = page.take_log().expect(rt, "a log");
     page.set_log(log);
 }
 
 // The page has no log any more, and keeps its bytes.
-fn check_outgrown(rt: &impl Abort, page: &mut PatchedFrame)
-    ensures { page.new.number ≡ page.old.number }
-{
+fn check_outgrown(rt: &impl Abort, page: &mut PatchedFrame) {
     check_eq(rt, page.take_log().is_none(), true);
 }
 
 // Stretches that cover each other in part, of 76 bytes altogether, and then one byte more than the page's log has room for.
-fn outgrow_by_bytes(rt: &impl Abort, page: &mut PatchedFrame, wanted: &mut [u8; PAGE_BYTES])
-    ensures { page.new.number ≡ page.old.number }
-{
+fn outgrow_by_bytes(rt: &impl Abort, page: &mut PatchedFrame, wanted: &mut [u8; PAGE_BYTES]) {
     write_both(page, wanted, 60, &[1; 16]);
     write_both(page, wanted, 50, &[2; 16]);
     write_both(page, wanted, 70, &[3; 16]);
@@ -213,9 +194,7 @@ fn outgrow_by_bytes(rt: &impl Abort, page: &mut PatchedFrame, wanted: &mut [u8; 
 }
 
 // Stretches across the ends of lines, twenty of two bytes each, and then one more than the page's log has room for.
-fn outgrow_by_stretches(rt: &impl Abort, page: &mut PatchedFrame, wanted: &mut [u8; PAGE_BYTES])
-    ensures { page.new.number ≡ page.old.number }
-{
+fn outgrow_by_stretches(rt: &impl Abort, page: &mut PatchedFrame, wanted: &mut [u8; PAGE_BYTES]) {
     for stretch in 0..20 {
         write_both(page, wanted, 192 * stretch + 63, &[stretch as u8 + 1, 100]);
     }
@@ -226,9 +205,7 @@ fn outgrow_by_stretches(rt: &impl Abort, page: &mut PatchedFrame, wanted: &mut [
 }
 
 // Writes at both ends of a page, across the ends of lines, and of more than a line.
-fn write_more(rt: &impl Abort, page: &mut PatchedFrame, wanted: &mut [u8; PAGE_BYTES])
-    ensures { page.new.number ≡ page.old.number }
-{
+fn write_more(rt: &impl Abort, page: &mut PatchedFrame, wanted: &mut [u8; PAGE_BYTES]) {
     write_both(page, wanted, 0, &[32, 33]);
     write_both(page, wanted, 62, &[34, 35, 36, 37, 38]);
     write_both(page, wanted, 2040, &[39; 80]);
@@ -283,9 +260,7 @@ pub(super) fn outgrown(
     rt: &impl Abort,
     frame: Frame,
     growth: Growth,
-) -> (PatchedFrame, [u8; PAGE_BYTES])
-    ensures { result.0.number ≡ frame.number }
-{
+) -> (PatchedFrame, [u8; PAGE_BYTES]) {
     let mut page = PatchedFrame::new(frame);
     page.set_bytes(&[255; PAGE_BYTES]);
     page.set_log(Log::new());
@@ -301,9 +276,7 @@ pub(super) fn outgrown(
 }
 
 // The frame of a page that outgrew its log has the page's bytes.
-fn check_frame(rt: &impl Abort, frame: Frame, growth: Growth) -> Frame
-    ensures { result.number ≡ frame.number }
-{
+fn check_frame(rt: &impl Abort, frame: Frame, growth: Growth) -> Frame {
     let (page, wanted) = outgrown(rt, frame, growth);
     let frame = page.into_frame();
     check_eq(rt, *frame.bytes() == wanted, true);
@@ -311,9 +284,7 @@ fn check_frame(rt: &impl Abort, frame: Frame, growth: Growth) -> Frame
 }
 
 // The bytes of a page that outgrew its log change places with those of a buffer.
-fn check_exchange(rt: &impl Abort, frame: Frame, growth: Growth) -> Frame
-    ensures { result.number ≡ frame.number }
-{
+fn check_exchange(rt: &impl Abort, frame: Frame, growth: Growth) -> Frame {
     let (mut page, wanted) = outgrown(rt, frame, growth);
     let mut buffer = [7; PAGE_BYTES];
     page.exchange(&mut buffer);
@@ -323,22 +294,18 @@ fn check_exchange(rt: &impl Abort, frame: Frame, growth: Growth) -> Frame
 }
 
 #[test]
-#[tactic(auto, using(vm_frames::proofs::NumberSets::set_members))]
 fn a_page_that_outgrew_its_log_keeps_its_bytes(rt: HostRuntime) {
-    let mut machine = Machine::new(rt.alloc(), 1).expect(&rt, "memory");
-    let frame = machine.take().expect(&rt, "a free frame");
+    let (machine, frame) = only_frame(&rt, rt.alloc());
     let frame = check_frame(&rt, frame, Growth::Stretches);
     let frame = check_frame(&rt, frame, Growth::Bytes);
     let frame = check_exchange(&rt, frame, Growth::Stretches);
-    machine.give(check_exchange(&rt, frame, Growth::Bytes));
-    close_machine(&rt, machine, 1);
+    give_only(&rt, machine, check_exchange(&rt, frame, Growth::Bytes));
 }
 
 #[test]
-#[tactic(auto, using(vm_frames::proofs::NumberSets::set_members))]
 fn a_page_outgrows_its_log(rt: HostRuntime) {
-    let mut machine = Machine::new(rt.alloc(), 1).expect(&rt, "memory");
-    let mut page = PatchedFrame::new(machine.take().expect(&rt, "a free frame"));
+    let (machine, frame) = only_frame(&rt, rt.alloc());
+    let mut page = PatchedFrame::new(frame);
     let mut wanted = [0; PAGE_BYTES];
     outgrow_by_bytes(&rt, &mut page, &mut wanted);
     check_outgrown(&rt, &mut page);
@@ -351,6 +318,5 @@ fn a_page_outgrows_its_log(rt: HostRuntime) {
     page.write(5, &[1; 12]);
     check_eq(&rt, page.take_patch().is_some(), true);
     check_five(&rt, &page, 4, [0, 0, 0, 0, 0]);
-    machine.give(page.release());
-    close_machine(&rt, machine, 1);
+    give_only(&rt, machine, page.release());
 }

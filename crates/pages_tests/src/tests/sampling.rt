@@ -65,6 +65,9 @@ fn sampler(
     Sampler::new(alloc, samples, period, size, words).expect(rt, "memory")
 }
 
+// Ends a sampler. It stands here once, since a function that owns one is proved to free all parts of it where it ends.
+fn end(_sampler: Sampler) {}
+
 // A period of one step, in which a page is touched.
 #[tactic(auto, using(crate::proofs::SizeLemmas::size_stepped))]
 fn touched_step(sampler: &mut Sampler, page: u32, words: &mut Words)
@@ -95,6 +98,7 @@ fn one_sample(rt: HostRuntime) {
     sampler.stepped(&mut words);
     sampler.stepped(&mut words);
     assert_active(&rt, &sampler, 57344);
+    end(sampler);
 }
 
 // A touch counts in the period whose draws have its page, and in no other. The draws of these words are 2, 1, 2, 2, 2, 3: after five
@@ -113,6 +117,7 @@ fn draws_that_are_due(rt: HostRuntime) {
     assert_active(&rt, &sampler, 33614);
     touched_step(&mut sampler, 3, &mut words);
     assert_active(&rt, &sampler, 37604);
+    end(sampler);
 }
 
 // The draws of a period may be made after words that come later were used by others. The draws of these words are 2, 1, 2, 2 and 2: both
@@ -125,6 +130,7 @@ fn words_of_others(rt: HostRuntime) {
     check_eq(&rt, words.pick(4), 2);
     touched_step(&mut sampler, 2, &mut words);
     assert_active(&rt, &sampler, 58368);
+    end(sampler);
 }
 
 // A guest that was idle for long and is touched is seen by the fast average: at once as it would be then, and so at the period's end.
@@ -138,6 +144,7 @@ fn fast_rise(rt: HostRuntime) {
     assert_active(&rt, &sampler, 32768);
     sampler.stepped(&mut words);
     assert_active(&rt, &sampler, 32768);
+    end(sampler);
 }
 
 // A guest that touches nothing is seen as less and less active.
@@ -150,6 +157,7 @@ fn slow_decay(rt: HostRuntime) {
         sampler.stepped(&mut words);
         assert_active(&rt, &sampler, want);
     }
+    end(sampler);
 }
 
 // The same, with the periods at once, and a fourth one begun, which a further step ends.
@@ -163,6 +171,7 @@ fn slow_decay_at_once(rt: HostRuntime) {
     assert_active(&rt, &sampler, 43904);
     sampler.idle(1, &mut words);
     assert_active(&rt, &sampler, 38416);
+    end(sampler);
 }
 
 // A touch counts in the period that ends first, and in no other; a touch after them counts with the draws of their last words.
@@ -177,6 +186,7 @@ fn touch_before_idle_steps(rt: HostRuntime) {
     sampler.touch(2);
     sampler.idle(2, &mut words);
     assert_active(&rt, &sampler, 58368);
+    end(sampler);
 }
 
 // All four draws give the one page, so a touch of it counts four times.
@@ -189,6 +199,7 @@ fn repeats_count(rt: HostRuntime) {
     assert_active(&rt, &sampler, 57344);
     sampler.stepped(&mut words);
     assert_active(&rt, &sampler, 58368);
+    end(sampler);
 }
 
 // A guest of the greatest size whose period is one step: no step costs a pass over the pages.
@@ -200,6 +211,7 @@ fn shortest_period(rt: HostRuntime) {
         sampler.stepped(&mut words);
     }
     assert_active(&rt, &sampler, 0);
+    end(sampler);
 }
 
 // As many idle steps as there can be, a thousand times.
@@ -211,4 +223,5 @@ fn most_idle_steps(rt: HostRuntime) {
         sampler.idle(u32::MAX, &mut words);
     }
     assert_active(&rt, &sampler, 0);
+    end(sampler);
 }

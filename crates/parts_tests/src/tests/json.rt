@@ -1,6 +1,6 @@
 // JSON values and what is read from them.
 use super::check_eq;
-use std::alloc::{AllocError, Global};
+use std::alloc::Global;
 use std::process::Abort;
 use vm_json::{
     ReadError, Scratch, Value, into_values, is_object, items, member, read, take_member, truth,
@@ -14,16 +14,16 @@ fn refusal(alloc: Global, bytes: &[u8]) -> Option<ReadError> {
 }
 
 // The whole number from 0 on that a text is.
-fn whole_of(alloc: Global, text: &str) -> Result<Option<u64>, ReadError> {
+fn whole_of(rt: &impl Abort, alloc: Global, text: &str) -> Option<u64> {
     let mut scratch = Scratch::new(alloc);
-    let value = read(alloc, text.as_bytes(), &mut scratch)?;
-    Ok(whole(&value))
+    let value = read(alloc, text.as_bytes(), &mut scratch).expect(rt, "a value");
+    whole(&value)
 }
 
 // Asserts which whole number from 0 on each of these texts is.
 fn check_whole(rt: &impl Abort, alloc: Global, wanted: Option<u64>, texts: &[&str]) {
     for &text in texts {
-        check_eq(rt, (text, whole_of(alloc, text)), (text, Ok(wanted)));
+        check_eq(rt, (text, whole_of(rt, alloc, text)), (text, wanted));
     }
 }
 
@@ -259,20 +259,24 @@ fn form_of(value: &Value<'_>) -> Option<Form> {
 }
 
 // How the array under "a" is kept in this object, beside a text under "b".
-fn form_beside(alloc: Global, array: &str, text: &str) -> Result<Option<Form>, ReadError> {
-    let bytes = format!(in alloc; "{{\"a\":{array},\"b\":\"{text}\"}}")?;
+fn form_beside(rt: &impl Abort, alloc: Global, array: &str, text: &str) -> Option<Form> {
+    let bytes = format!(in alloc; "{{\"a\":{array},\"b\":\"{text}\"}}").expect(rt, "memory");
     let mut scratch = Scratch::new(alloc);
-    let object = read(alloc, bytes.as_bytes(), &mut scratch)?;
-    Ok(member(&object, "a").and_then(form_of))
+    let object = read(alloc, bytes.as_bytes(), &mut scratch).expect(rt, "a value");
+    member(&object, "a").and_then(form_of)
+}
+
+// Asserts how an array is kept beside a text.
+fn check_form(rt: &impl Abort, alloc: Global, wanted: Form, array: &str, text: &str) {
+    let found = form_beside(rt, alloc, array, text);
+    check_eq(rt, (array, text, found), (array, text, Some(wanted)));
 }
 
 // Asserts how these arrays are kept. An escape beside one makes no difference.
 fn check_kept(rt: &(impl Abort + AllocGlobal), wanted: Form, arrays: &[&str]) {
     for &array in arrays {
-        for text in ["b", "\\u0062"] {
-            let found = form_beside(rt.alloc(), array, text);
-            check_eq(rt, (array, text, found), (array, text, Ok(Some(wanted))));
-        }
+        check_form(rt, rt.alloc(), wanted, array, "b");
+        check_form(rt, rt.alloc(), wanted, array, "\\u0062");
     }
 }
 
@@ -301,33 +305,33 @@ fn last_of_two_plain_members_counts(rt: HostRuntime) {
     check_eq(&rt, whole(number), Some(2));
 }
 
+// Adds these bytes so many times.
+fn push_times(rt: &impl Abort, bytes: &mut Vec<u8>, times: usize, more: &[u8]) {
+    for _ in 0..times {
+        bytes.extend_from_slice(more).expect(rt, "memory");
+    }
+}
+
 // Values within one another, each between this opening and this closing, around what is inside.
 fn nested(
+    rt: &impl Abort,
     alloc: Global,
     depth: usize,
     around: (&[u8], &[u8]),
     inside: &[u8],
-) -> Result<Vec<u8>, AllocError> {
+) -> Vec<u8> {
     let mut bytes = Vec::new(alloc);
-    for _ in 0..depth {
-        bytes.extend_from_slice(around.0)?;
-    }
-    bytes.extend_from_slice(inside)?;
-    for _ in 0..depth {
-        bytes.extend_from_slice(around.1)?;
-    }
-    Ok(bytes)
+    push_times(rt, &mut bytes, depth, around.0);
+    push_times(rt, &mut bytes, 1, inside);
+    push_times(rt, &mut bytes, depth, around.1);
+    bytes
 }
 
 // Asserts that values between these nest 127 deep, and no deeper.
 fn check_depth(rt: &(impl Abort + AllocGlobal), around: (&[u8], &[u8]), inside: &[u8]) {
     for depth in 126..130 {
-        let bytes = nested(rt.alloc(), depth, around, inside).expect(rt, "memory");
-        let wanted = if depth <= 127 {
-            None
-        } else {
-            Some(ReadError::NotJson)
-        };
+        let bytes = nested(rt, rt.alloc(), depth, around, inside);
+        let wanted = (depth > 127).then_some(ReadError::NotJson);
         check_eq(rt, (depth, refusal(rt.alloc(), &bytes)), (depth, wanted));
     }
 }
@@ -349,64 +353,68 @@ fn escapes_leave_the_depth_as_it_is(rt: HostRuntime) {
     check_depth(&rt, (b"{\"\\u0062\":", b"}"), b"0");
 }
 
-fn tell_text(text: &str, out: &mut String) -> Result<(), AllocError> {
-    out.push_str("\"")?;
-    out.push_str(text)?;
-    out.push_str("\"")
+fn push(rt: &impl Abort, out: &mut String, text: &str) {
+    out.push_str(text).expect(rt, "memory");
 }
 
-fn tell_texts(texts: &[&str], out: &mut String) -> Result<(), AllocError> {
-    out.push_str("T[")?;
+fn tell_text(rt: &impl Abort, text: &str, out: &mut String) {
+    push(rt, out, "\"");
+    push(rt, out, text);
+    push(rt, out, "\"");
+}
+
+fn tell_texts(rt: &impl Abort, texts: &[&str], out: &mut String) {
+    push(rt, out, "T[");
     for text in texts {
-        tell_text(*text, out)?;
-        out.push_str(",")?;
+        tell_text(rt, *text, out);
+        push(rt, out, ",");
     }
-    out.push_str("]")
+    push(rt, out, "]");
 }
 
 // Tells a value, and of an array also how it is kept: `T` as texts, `V` as values. A comma stands behind each item.
 #[cycle(tell)]
-fn tell(value: &Value<'_>, out: &mut String) -> Result<(), AllocError> {
+fn tell(rt: &impl Abort, value: &Value<'_>, out: &mut String) {
     match value {
-        Value::Null => out.push_str("null"),
-        Value::Bool(truth) => out.push_str(if *truth { "true" } else { "false" }),
-        Value::Number(number) => out.push_str(*number),
-        Value::Text(text) => tell_text(*text, out),
-        Value::Texts(texts) => tell_texts(texts, out),
-        Value::Array(values) => tell_values(values, out),
-        Value::Object(members) => tell_members(members, out),
+        Value::Null => push(rt, out, "null"),
+        Value::Bool(truth) => push(rt, out, if *truth { "true" } else { "false" }),
+        Value::Number(number) => push(rt, out, *number),
+        Value::Text(text) => tell_text(rt, *text, out),
+        Value::Texts(texts) => tell_texts(rt, texts, out),
+        Value::Array(values) => tell_values(rt, values, out),
+        Value::Object(members) => tell_members(rt, members, out),
     }
 }
 
 #[cycle(tell)]
-fn tell_values(values: &[Value<'_>], out: &mut String) -> Result<(), AllocError> {
-    out.push_str("V[")?;
+fn tell_values(rt: &impl Abort, values: &[Value<'_>], out: &mut String) {
+    push(rt, out, "V[");
     for value in values {
-        tell(value, out)?;
-        out.push_str(",")?;
+        tell(rt, value, out);
+        push(rt, out, ",");
     }
-    out.push_str("]")
+    push(rt, out, "]");
 }
 
 #[cycle(tell)]
-fn tell_members(members: &[(&str, Value<'_>)], out: &mut String) -> Result<(), AllocError> {
-    out.push_str("{")?;
+fn tell_members(rt: &impl Abort, members: &[(&str, Value<'_>)], out: &mut String) {
+    push(rt, out, "{");
     for (key, value) in members {
-        tell_text(*key, out)?;
-        out.push_str(":")?;
-        tell(value, out)?;
-        out.push_str(",")?;
+        tell_text(rt, *key, out);
+        push(rt, out, ":");
+        tell(rt, value, out);
+        push(rt, out, ",");
     }
-    out.push_str("}")
+    push(rt, out, "}");
 }
 
 // How the value that a text is is told.
-fn told_value(alloc: Global, text: &str) -> Result<String, ReadError> {
+fn told_value(rt: &impl Abort, alloc: Global, text: &str) -> String {
     let mut scratch = Scratch::new(alloc);
-    let value = read(alloc, text.as_bytes(), &mut scratch)?;
+    let value = read(alloc, text.as_bytes(), &mut scratch).expect(rt, "a value");
     let mut out = String::new(alloc);
-    tell(&value, &mut out)?;
-    Ok(out)
+    tell(rt, &value, &mut out);
+    out
 }
 
 // What is written, and how that is told once it is read.
@@ -477,96 +485,112 @@ fn surroundings() -> [(Sample, Sample); 5] {
 
 // As many of the texts, in turn, with the other item in place of one of them, if there is another.
 fn items_of(
+    rt: &impl Abort,
     alloc: Global,
     texts: [Sample; 6],
     len: usize,
     other: Option<(usize, Sample)>,
-) -> Result<Vec<Sample>, AllocError> {
+) -> Vec<Sample> {
     let mut items = Vec::new(alloc);
     for place in 0..len {
         let item = match other {
             Some((there, sample)) if there == place => sample,
             _ => texts[place % 6],
         };
-        items.push(item)?;
+        items.push(item).expect(rt, "memory");
     }
-    Ok(items)
+    items
 }
 
 // The array of these items, with these blanks wherever some may stand.
-fn written_array(alloc: Global, items: &[Sample], blanks: &str) -> Result<String, AllocError> {
-    let mut array = format!(in alloc; "[{blanks}")?;
+fn written_array(rt: &impl Abort, alloc: Global, items: &[Sample], blanks: &str) -> String {
+    let mut array = String::new(alloc);
+    push(rt, &mut array, "[");
+    push(rt, &mut array, blanks);
     for (place, item) in items.iter().enumerate() {
-        if place > 0 {
-            array.push_str(",")?;
-            array.push_str(blanks)?;
-        }
-        array.push_str(item.written)?;
-        array.push_str(blanks)?;
+        push_item(rt, &mut array, place > 0, item.written, blanks);
     }
-    array.push_str("]")?;
-    Ok(array)
+    push(rt, &mut array, "]");
+    array
+}
+
+// Adds an item, behind a comma where it is not the first one.
+fn push_item(rt: &impl Abort, array: &mut String, is_next: bool, item: &str, blanks: &str) {
+    if is_next {
+        push(rt, array, ",");
+        push(rt, array, blanks);
+    }
+    push(rt, array, item);
+    push(rt, array, blanks);
 }
 
 // How the array is told, where it is kept so.
-fn told_array(alloc: Global, items: &[Sample], kept: &str) -> Result<String, AllocError> {
-    let mut told = format!(in alloc; "{kept}[")?;
+fn told_array(rt: &impl Abort, alloc: Global, items: &[Sample], kept: &str) -> String {
+    let mut told = String::new(alloc);
+    push(rt, &mut told, kept);
+    push(rt, &mut told, "[");
     for item in items {
-        told.push_str(item.told)?;
-        told.push_str(",")?;
+        push(rt, &mut told, item.told);
+        push(rt, &mut told, ",");
     }
-    told.push_str("]")?;
-    Ok(told)
+    push(rt, &mut told, "]");
+    told
+}
+
+// These texts, one behind the other.
+fn joined(rt: &impl Abort, alloc: Global, first: &str, second: &str, third: &str) -> String {
+    let mut text = String::new(alloc);
+    push(rt, &mut text, first);
+    push(rt, &mut text, second);
+    push(rt, &mut text, third);
+    text
+}
+
+// Asserts how a text is told.
+fn check_text(rt: &impl Abort, alloc: Global, text: &str, wanted: &str) {
+    let found = told_value(rt, alloc, text);
+    check_eq(rt, (text, found.as_str()), (text, wanted));
 }
 
 // Asserts how an array is told, whatever stands around it.
-fn check_told(rt: &(impl Abort + AllocGlobal), array: &str, told: &str) {
+fn check_told(rt: &impl Abort, alloc: Global, array: &str, told: &str) {
     for (before, behind) in surroundings() {
-        let text = format!(in rt.alloc(); "{}{array}{}", before.written, behind.written).expect(
-            rt, "memory",
-        );
-        let wanted = format!(in rt.alloc(); "{}{told}{}", before.told, behind.told).expect(
-            rt, "memory",
-        );
-        let found = told_value(rt.alloc(), &text).expect(rt, "a value");
-        check_eq(
-            rt,
-            (text.as_str(), found.as_str()),
-            (text.as_str(), wanted.as_str()),
-        );
+        let text = joined(rt, alloc, before.written, array, behind.written);
+        let wanted = joined(rt, alloc, before.told, told, behind.told);
+        check_text(rt, alloc, text.as_str(), wanted.as_str());
     }
 }
 
 // Asserts that the array of these items is read as it is written, and kept so.
-fn check_made(rt: &(impl Abort + AllocGlobal), items: &[Sample], kept: &str) {
-    let told = told_array(rt.alloc(), items, kept).expect(rt, "memory");
+fn check_made(rt: &impl Abort, alloc: Global, items: &[Sample], kept: &str) {
+    let told = told_array(rt, alloc, items, kept);
     for blanks in ["", " \t\r\n"] {
-        let array = written_array(rt.alloc(), items, blanks).expect(rt, "memory");
-        check_told(rt, &array, &told);
+        let array = written_array(rt, alloc, items, blanks);
+        check_told(rt, alloc, &array, &told);
     }
 }
 
 // The same, of texts with another item at that place.
-fn check_others(rt: &(impl Abort + AllocGlobal), texts: [Sample; 6], len: usize, place: usize) {
+fn check_others(rt: &impl Abort, alloc: Global, texts: [Sample; 6], len: usize, place: usize) {
     for other in others() {
-        let items = items_of(rt.alloc(), texts, len, Some((place, other))).expect(rt, "memory");
-        check_made(rt, &items, "V");
+        let items = items_of(rt, alloc, texts, len, Some((place, other)));
+        check_made(rt, alloc, &items, "V");
     }
 }
 
 // The same, of texts alone and with another item at each place.
-fn check_texts(rt: &(impl Abort + AllocGlobal), texts: [Sample; 6], len: usize) {
-    let items = items_of(rt.alloc(), texts, len, None).expect(rt, "memory");
-    check_made(rt, &items, "T");
+fn check_texts(rt: &impl Abort, alloc: Global, texts: [Sample; 6], len: usize) {
+    let items = items_of(rt, alloc, texts, len, None);
+    check_made(rt, alloc, &items, "T");
     for place in 0..len {
-        check_others(rt, texts, len, place);
+        check_others(rt, alloc, texts, len, place);
     }
 }
 
 #[test]
 fn one_item_that_is_no_text_makes_an_array_of_values(rt: HostRuntime) {
     for len in 0..18 {
-        check_texts(&rt, plain_texts(), len);
-        check_texts(&rt, escaped_texts(), len);
+        check_texts(&rt, rt.alloc(), plain_texts(), len);
+        check_texts(&rt, rt.alloc(), escaped_texts(), len);
     }
 }

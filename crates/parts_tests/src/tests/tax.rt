@@ -1,7 +1,9 @@
 // Worked examples of prices and of the winner tree.
-ghost use Rattle.std.specs.Prelude.{◌≡◌, ◌≤◌};
+ghost use Rattle.std.specs.Prelude.{◌≡◌, ◌<◌, ◌≤◌, IfSome, length};
+ghost use Rattle.std.specs.List.{AllByRecursion};
 
 use super::check_eq;
+use std::alloc::Global;
 use std::cmp::Ordering;
 use std::process::Abort;
 use vm_tax::{Greatest, Price, Winners, cmp_price};
@@ -108,46 +110,105 @@ fn used_pages_weigh_less(rt: HostRuntime) {
     assert_worth(&rt, 9999, 65536, 1, 10000);
 }
 
+// The winners of these prices.
+fn winners(rt: &impl Abort, alloc: Global, prices: &[Option<Price>]) -> Winners
+    requires few { length prices.now ≤ 256 }
+    requires taxed { AllByRecursion (λ offer. IfSome offer (λ price. price.tax ≡ 7500)) prices.now }
+    ensures length { length result ≡ length prices.now }
+    ensures taxed { AllByRecursion (λ offer. IfSome offer (λ price. price.tax ≡ 7500)) result }
+{
+    Winners::new(alloc, prices).expect(rt, "memory")
+}
+
+// Changes a price.
+fn set_winner(winners: &mut Winners, position: u32, price: Option<Price>)
+    requires within { position < length winners.old }
+    requires taxed { AllByRecursion (λ offer. IfSome offer (λ price. price.tax ≡ 7500)) winners.old }
+    requires price { IfSome price (λ price. price.tax ≡ 7500) }
+    ensures length { length winners.new ≡ length winners.old }
+    ensures taxed { AllByRecursion (λ offer. IfSome offer (λ price. price.tax ≡ 7500)) winners.new }
+{
+    winners.set(position, price);
+}
+
+// Ends winners. It stands here once, since a function that owns some is proved to free all parts of them where it ends.
+fn end_winners(_winners: Winners) {}
+
 #[test]
 fn winners_follow_changes(rt: HostRuntime) {
     let prices = [Some(price(100, 10, 65536)), Some(price(100, 5, 0))];
-    let mut winners = Winners::new(rt.alloc(), &prices).expect(&rt, "memory");
+    let mut winners = winners(&rt, rt.alloc(), &prices);
     check_least(&rt, &winners, Some(1));
-    winners.set(1, None);
+    set_winner(&mut winners, 1, None);
     check_least(&rt, &winners, Some(0));
-    winners.set(0, None);
+    set_winner(&mut winners, 0, None);
     check_least(&rt, &winners, None);
+    end_winners(winners);
 }
 
 #[test]
 fn equal_prices_go_to_the_lower_position(rt: HostRuntime) {
     let prices = [Some(price(100, 5, 65536)), Some(price(100, 5, 65536))];
-    let winners = Winners::new(rt.alloc(), &prices).expect(&rt, "memory");
+    let winners = winners(&rt, rt.alloc(), &prices);
     check_least(&rt, &winners, Some(0));
+    end_winners(winners);
+}
+
+// The price of a guest with so many pages.
+fn of_pages(pages: u32) -> Price
+    requires some { 1 ≤ pages }
+    requires few { pages ≤ 262144 }
+    ensures { result.tax ≡ 7500 }
+{
+    price(100, pages, 65536)
 }
 
 #[test]
 fn any_number_of_positions(rt: HostRuntime) {
-    let pages = |pages: u32| -> Option<Price>
-        requires { (1 ≤ pages) × (pages ≤ 262144) }
-    { Some(price(100, pages, 65536)) };
-    let prices = [pages(3), pages(9), None, pages(9), pages(5)];
-    let mut winners = Winners::new(rt.alloc(), &prices).expect(&rt, "memory");
+    let nine = Some(of_pages(9));
+    let prices = [Some(of_pages(3)), nine, None, nine, Some(of_pages(5))];
+    let mut winners = winners(&rt, rt.alloc(), &prices);
     check_least(&rt, &winners, Some(1));
-    winners.set(1, pages(8));
+    set_winner(&mut winners, 1, Some(of_pages(8)));
     check_least(&rt, &winners, Some(3));
-    winners.set(2, pages(20));
+    set_winner(&mut winners, 2, Some(of_pages(20)));
     check_least(&rt, &winners, Some(2));
-    winners.set(2, None);
-    winners.set(3, None);
+    set_winner(&mut winners, 2, None);
+    set_winner(&mut winners, 3, None);
     check_least(&rt, &winners, Some(1));
+    end_winners(winners);
 }
 
 #[test]
 fn no_positions(rt: HostRuntime) {
-    let winners = Winners::new(rt.alloc(), &[]).expect(&rt, "memory");
+    let winners = winners(&rt, rt.alloc(), &[]);
     check_least(&rt, &winners, None);
+    end_winners(winners);
 }
+
+// The greatest of these prices.
+fn greatest(rt: &impl Abort, alloc: Global, prices: &[Option<Price>]) -> Greatest
+    requires few { length prices.now ≤ 256 }
+    requires taxed { AllByRecursion (λ offer. IfSome offer (λ price. price.tax ≡ 7500)) prices.now }
+    ensures length { length result ≡ length prices.now }
+    ensures taxed { AllByRecursion (λ offer. IfSome offer (λ price. price.tax ≡ 7500)) result }
+{
+    Greatest::new(alloc, prices).expect(rt, "memory")
+}
+
+// Changes a price.
+fn set_greatest(greatest: &mut Greatest, position: u32, price: Option<Price>)
+    requires within { position < length greatest.old }
+    requires taxed { AllByRecursion (λ offer. IfSome offer (λ price. price.tax ≡ 7500)) greatest.old }
+    requires price { IfSome price (λ price. price.tax ≡ 7500) }
+    ensures length { length greatest.new ≡ length greatest.old }
+    ensures taxed { AllByRecursion (λ offer. IfSome offer (λ price. price.tax ≡ 7500)) greatest.new }
+{
+    greatest.set(position, price);
+}
+
+// The same of the greatest prices.
+fn end_greatest(_greatest: Greatest) {}
 
 #[test]
 fn greatest_follows_changes(rt: HostRuntime) {
@@ -157,22 +218,24 @@ fn greatest_follows_changes(rt: HostRuntime) {
         None,
         Some(price(200, 20, 65536)),
     ];
-    let mut greatest = Greatest::new(rt.alloc(), &prices).expect(&rt, "memory");
+    let mut greatest = greatest(&rt, rt.alloc(), &prices);
     // The lower of two equal ones.
     check_greatest(&rt, &greatest, Some(1));
-    greatest.set(1, None);
+    set_greatest(&mut greatest, 1, None);
     check_greatest(&rt, &greatest, Some(3));
-    greatest.set(2, Some(price(100, 9, 65536)));
+    set_greatest(&mut greatest, 2, Some(price(100, 9, 65536)));
     check_greatest(&rt, &greatest, Some(2));
-    greatest.set(2, None);
-    greatest.set(3, None);
+    set_greatest(&mut greatest, 2, None);
+    set_greatest(&mut greatest, 3, None);
     check_greatest(&rt, &greatest, Some(0));
-    greatest.set(0, None);
+    set_greatest(&mut greatest, 0, None);
     check_greatest(&rt, &greatest, None);
+    end_greatest(greatest);
 }
 
 #[test]
 fn greatest_of_no_positions(rt: HostRuntime) {
-    let greatest = Greatest::new(rt.alloc(), &[]).expect(&rt, "memory");
+    let greatest = greatest(&rt, rt.alloc(), &[]);
     check_greatest(&rt, &greatest, None);
+    end_greatest(greatest);
 }

@@ -1,6 +1,6 @@
 // The table of steps and faults, and a trace.
 use super::{check_eq, check_words};
-use std::alloc::{AllocError, Global};
+use std::alloc::Global;
 use std::process::Abort;
 use vm_trace::{
     Action, Bytes, PushError, Queue, StepKind, Trace, TraceError, parse_step, parse_step_within,
@@ -119,20 +119,19 @@ fn bytes_lie_in_place(rt: HostRuntime) {
     check_eq(&rt, Bytes::from_slice(&[]).is_empty(), true);
 }
 
-// The fault of a step that posts so many bytes.
-fn post_fault(alloc: Global, bytes: usize) -> Result<Option<TraceError>, AllocError> {
-    let mut text = String::from_str(alloc, "p i ")?;
+// Asserts the fault of a step that posts so many bytes, if it has any.
+fn check_post(rt: &impl Abort, alloc: Global, bytes: usize, fault: Option<TraceError>) {
+    let mut text = String::from_str(alloc, "p i ").expect(rt, "memory");
     for _ in 0..bytes {
-        text.push_str("ff")?;
+        text.push_str("ff").expect(rt, "memory");
     }
-    Ok(parse_step(text.as_str()).err())
+    check_eq(rt, parse_step(text.as_str()).err(), fault);
 }
 
 #[test]
 fn posts_have_at_most_64_bytes(rt: HostRuntime) {
-    check_eq(&rt, post_fault(rt.alloc(), 64), Ok(None));
-    let fault = Some(TraceError::Length);
-    check_eq(&rt, post_fault(rt.alloc(), 65), Ok(fault));
+    check_post(&rt, rt.alloc(), 64, None);
+    check_post(&rt, rt.alloc(), 65, Some(TraceError::Length));
 }
 
 // Adds a step for each text to a trace without any, and asserts that it has these and no others.
@@ -151,10 +150,14 @@ fn check_steps(rt: &impl Abort, trace: &mut Trace, texts: &[&str]) {
     check_eq(rt, trace.step(texts.len()), None);
 }
 
+// Ends a trace. It stands here once, since a function that owns one is proved to free its parts where it ends.
+fn end(_trace: Trace) {}
+
 #[test]
 fn traces_keep_their_order(rt: HostRuntime) {
     let mut trace = Trace::new(rt.alloc());
     check_steps(&rt, &mut trace, &["f 3", "i"]);
+    end(trace);
 }
 
 #[test]
@@ -177,6 +180,7 @@ fn traces_keep_the_bytes_of_each_step(rt: HostRuntime) {
     };
     let step = trace.step(3).expect(&rt, "a step");
     check_eq(&rt, step.action(), last_byte);
+    end(trace);
 }
 
 // Asserts what the step at a place does, and which bytes it brings along.
@@ -214,6 +218,7 @@ fn steps_are_told_without_their_bytes(rt: HostRuntime) {
     check_kind(&rt, &trace, 3, Some(StepKind::Free { page: 2 }), &[]);
     check_kind(&rt, &trace, 4, Some(StepKind::Idle), &[]);
     check_kind(&rt, &trace, 5, None, &[]);
+    end(trace);
 }
 
 // Asserts that a trace has three steps, a write of two bytes, one that does nothing, and a raw buffer of one byte.
@@ -235,6 +240,8 @@ fn traces_are_copied(rt: HostRuntime) {
     check_eq(&rt, trace.push_text("w 0 0 00", 262144, 1), Ok(()));
     check_eq(&rt, trace.len(), 4);
     check_three_steps(&rt, &copy);
+    end(copy);
+    end(trace);
 }
 
 // Asserts that a text adds this step to a trace of a guest with 65536 pages.
@@ -261,6 +268,7 @@ fn texts_add_reads(rt: HostRuntime) {
     let ten_digits = "r 0000065535 4080 16";
     check_added(&rt, &mut trace, ten_digits, read_of(65535, 4080, 16));
     check_added(&rt, &mut trace, "r 0 0 1", read_of(0, 0, 1));
+    end(trace);
 }
 
 #[test]
@@ -286,6 +294,7 @@ fn texts_add_writes(rt: HostRuntime) {
     };
     let step = trace.step(0).expect(&rt, "a step");
     check_eq(&rt, step.action(), first);
+    end(trace);
 }
 
 #[test]
@@ -303,6 +312,7 @@ fn texts_add_other_steps(rt: HostRuntime) {
         bytes: Bytes::from_slice(&[0xff, 0xfe, 0x07]),
     };
     check_added(&rt, &mut trace, "p i FFfe07", mixed);
+    end(trace);
 }
 
 // Asserts that each of these texts has this fault, for a guest of 8 pages, and adds nothing.
@@ -352,6 +362,7 @@ fn texts_with_a_fault_add_nothing(rt: HostRuntime) {
     check_faulty_words(&rt, &mut trace);
     check_ranges(&rt, &mut trace);
     check_faulty_bytes(&rt, &mut trace);
+    end(trace);
 }
 
 // Pairs of hexadecimal digits, in which each digit comes, and the bytes that they spell.
@@ -370,19 +381,18 @@ const PAIRS: [(&str, u8); 11] = [
 ];
 
 // Adds so many pairs to a text, from one of them on.
-fn push_pairs(text: &mut String, first: usize, count: usize) -> Result<(), AllocError> {
+fn push_pairs(rt: &impl Abort, text: &mut String, first: usize, count: usize) {
     for place in 0..count {
         let number = usize::wrapping_add(first, place) % 11;
-        text.push_str(PAIRS[number].0)?;
+        text.push_str(PAIRS[number].0).expect(rt, "memory");
     }
-    Ok(())
 }
 
 // The text of a raw buffer of these pairs.
-fn post_of(alloc: Global, first: usize, count: usize) -> Result<String, AllocError> {
-    let mut text = String::from_str(alloc, "p i ")?;
-    push_pairs(&mut text, first, count)?;
-    Ok(text)
+fn post_of(rt: &impl Abort, alloc: Global, first: usize, count: usize) -> String {
+    let mut text = String::from_str(alloc, "p i ").expect(rt, "memory");
+    push_pairs(rt, &mut text, first, count);
+    text
 }
 
 // The bytes that so many pairs spell, at most 64, from one of them on.
@@ -395,42 +405,55 @@ fn bytes_of(first: usize, count: usize) -> Bytes {
     Bytes::from_slice(&bytes[..count.min(64)])
 }
 
+// Asserts that the text of a raw buffer of so many pairs adds it.
+fn check_raw(rt: &impl Abort, alloc: Global, trace: &mut Trace, count: usize) {
+    let text = post_of(rt, alloc, count, count);
+    let queue = Queue::Inflate;
+    let bytes = bytes_of(count, count);
+    let wanted = Action::Post { queue, bytes };
+    check_added(rt, trace, text.as_str(), wanted);
+}
+
 #[test]
 fn texts_add_raw_buffers_of_all_lengths(rt: HostRuntime) {
     let mut trace = Trace::new(rt.alloc());
     for count in 1..65 {
-        let text = post_of(rt.alloc(), count, count).expect(&rt, "memory");
-        let queue = Queue::Inflate;
-        let bytes = bytes_of(count, count);
-        check_added(
-            &rt,
-            &mut trace,
-            text.as_str(),
-            Action::Post { queue, bytes },
-        );
+        check_raw(&rt, rt.alloc(), &mut trace, count);
     }
+    end(trace);
 }
 
 // The text of a raw buffer with these characters behind so many pairs, and then others up to 64.
-fn post_with(alloc: Global, before: usize, middle: &str) -> Result<String, AllocError> {
-    let mut text = post_of(alloc, before, before)?;
-    text.push_str(middle)?;
-    push_pairs(&mut text, 0, usize::saturating_sub(63, before))?;
-    Ok(text)
+fn post_with(rt: &impl Abort, alloc: Global, before: usize, middle: &str) -> String {
+    let mut text = post_of(rt, alloc, before, before);
+    text.push_str(middle).expect(rt, "memory");
+    push_pairs(rt, &mut text, 0, usize::saturating_sub(63, before));
+    text
+}
+
+// Asserts that a raw buffer with other characters behind so many pairs adds nothing.
+fn check_others(rt: &impl Abort, alloc: Global, trace: &mut Trace, before: usize) {
+    let others = ["g0", "0G", "/0", "0:", "@0", "0`", "0", "000", "\u{e9}"];
+    for middle in others {
+        let text = post_with(rt, alloc, before, middle);
+        check_refused(rt, trace, TraceError::Hex, &[text.as_str()]);
+    }
+}
+
+// Asserts that a raw buffer that is too long adds nothing.
+fn check_long(rt: &impl Abort, alloc: Global, trace: &mut Trace) {
+    let long = post_of(rt, alloc, 0, 65);
+    check_refused(rt, trace, TraceError::Length, &[long.as_str()]);
 }
 
 #[test]
 fn raw_buffers_with_another_character_add_nothing(rt: HostRuntime) {
     let mut trace = Trace::new(rt.alloc());
-    let others = ["g0", "0G", "/0", "0:", "@0", "0`", "0", "000", "\u{e9}"];
     for before in 0..64 {
-        for &middle in &others {
-            let text = post_with(rt.alloc(), before, middle).expect(&rt, "memory");
-            check_refused(&rt, &mut trace, TraceError::Hex, &[text.as_str()]);
-        }
+        check_others(&rt, rt.alloc(), &mut trace, before);
     }
-    let long = post_of(rt.alloc(), 0, 65).expect(&rt, "memory");
-    check_refused(&rt, &mut trace, TraceError::Length, &[long.as_str()]);
+    check_long(&rt, rt.alloc(), &mut trace);
+    end(trace);
 }
 
 #[test]

@@ -1,15 +1,16 @@
 // A guest on a machine of its own.
-ghost use Rattle.std.specs.Prelude.{◌≡◌, ◌+◌, ◌-◌, ◌<◌, ◌≤◌, ◌^◌, IsTrue, length};
+ghost use Rattle.std.specs.Prelude.{◌≡◌, ◌+◌, ◌-◌, ◌<◌, ◌≤◌, ◌^◌, IsTrue, false, length};
 ghost use Rattle.std.specs.FinSet as set;
 ghost use Rattle.vm_guest.specs.Good.{HasNothingPosted};
 ghost use Rattle.vm_guest.specs.Room.{room_for};
+ghost use Rattle.vm_guest.specs.View.{view_of};
 
 use super::setup::plain_guest;
 use crate::tests::check_eq;
 use std::marker::Model;
 use std::process::Abort;
 use vm_balloon::Stats;
-use vm_frames::{Machine, PAGE_BYTES};
+use vm_frames::{Frame, Machine, PAGE_BYTES};
 use vm_guest::{Guest, GuestRoom, GuestSpec, GuestView, PageRead};
 use vm_trace::Bytes;
 
@@ -20,6 +21,24 @@ fn demand(rt: &impl Abort, holds: bool)
     ensures { IsTrue holds }
 {
     assert!(rt; holds);
+}
+
+// What is seen of a guest, and no more: a clause of `view` tells all that is true of every guest as well.
+fn seen(guest: &Guest) -> GuestView
+    ensures { result ≡ view_of guest.now.guest }
+{
+    guest.view()
+}
+
+// Takes a free frame.
+fn take_frame(rt: &impl Abort, machine: &mut Machine) -> Frame
+    ensures free { set.contains machine.old.out result.number ≡ false }
+    ensures taken { machine.new ≡ record machine.old { out = set.insert machine.old.out result.number } }
+{
+    match machine.take() {
+        Some(frame) => frame,
+        None => panic!(rt; "no frame is free"),
+    }
 }
 
 // Asserts the numbers of the first two frames that a machine hands out of which no frame is out, and ends it.
@@ -107,8 +126,7 @@ impl LoneGuest {
     }
 
     pub(super) fn order(&mut self, blocked: bool)
-        ensures capacity { self.new.capacity ≡ self.old.capacity }
-        ensures nothing { HasNothingPosted self.old.guest → HasNothingPosted self.new.guest }
+        ensures { HasNothingPosted self.old.guest → HasNothingPosted self.new.guest }
     {
         self.guest.order(blocked);
     }
@@ -116,8 +134,10 @@ impl LoneGuest {
     pub(super) fn epoch(&mut self, rt: &impl Abort)
         requires { HasNothingPosted self.old.guest }
     {
-        self.guest.prepare().expect(rt, "memory");
-        self.guest.run_epoch();
+        match self.guest.prepare() {
+            Ok(()) => self.guest.run_epoch(),
+            Err(_) => panic!(rt; "memory"),
+        }
     }
 
     pub(super) fn serve(&mut self)
@@ -129,7 +149,7 @@ impl LoneGuest {
     pub(super) fn spares_back(&mut self, rt: &impl Abort) -> u32
         ensures { HasNothingPosted self.old.guest → HasNothingPosted self.new.guest }
     {
-        let view = self.guest.view();
+        let view = seen(&self.guest);
         demand(rt, view.target <= view.held);
         self.guest.spares_back(&mut self.machine)
     }
@@ -143,21 +163,21 @@ impl LoneGuest {
     }
 
     pub(super) fn release(&mut self, rt: &impl Abort, count: u32) {
-        let view = self.guest.view();
+        let view = seen(&self.guest);
         demand(rt, view.target <= view.held);
         demand(rt, count <= view.held - view.target);
         self.guest.release(count, &mut self.machine);
     }
 
     pub(super) fn revoke(&mut self, rt: &impl Abort) {
-        let view = self.guest.view();
+        let view = seen(&self.guest);
         demand(rt, view.min < view.target);
         self.guest.revoke();
     }
 
     // Lowers the target, at most to the minimum.
     pub(super) fn lower_target(&mut self, rt: &impl Abort, count: u32) {
-        let view = self.guest.view();
+        let view = seen(&self.guest);
         demand(rt, view.min <= view.target);
         demand(rt, count <= view.target - view.min);
         self.guest.lower_target(count);
@@ -167,17 +187,17 @@ impl LoneGuest {
     pub(super) fn grant(&mut self, rt: &impl Abort)
         ensures { HasNothingPosted self.old.guest → HasNothingPosted self.new.guest }
     {
-        let view = self.guest.view();
+        let view = seen(&self.guest);
         demand(rt, 0 < view.demand);
         demand(rt, view.target < view.cap);
         demand(rt, view.target == view.held);
-        let frame = self.machine.take().expect(rt, "a free frame");
+        let frame = take_frame(rt, &mut self.machine);
         self.guest.grant(Some(frame));
     }
 
     // A grant of a frame that the guest holds.
     pub(super) fn grant_held(&mut self, rt: &impl Abort) {
-        let view = self.guest.view();
+        let view = seen(&self.guest);
         demand(rt, 0 < view.demand);
         demand(rt, view.target < view.cap);
         demand(rt, view.target < view.held);
@@ -186,33 +206,31 @@ impl LoneGuest {
 
     // Raises the target, for which frames have to come where the guest holds fewer then.
     pub(super) fn raise_target(&mut self, rt: &impl Abort, count: u32) {
-        let view = self.guest.view();
+        let view = seen(&self.guest);
         demand(rt, u64::from(count) <= view.demand);
+        demand(rt, view.target <= view.cap);
         demand(rt, count <= view.cap - view.target);
         self.guest.raise_target(count);
     }
 
     pub(super) fn add_spare(&mut self, rt: &impl Abort) {
-        let view = self.guest.view();
+        let view = seen(&self.guest);
         demand(rt, view.held < view.target);
-        let frame = self.machine.take().expect(rt, "a free frame");
+        let frame = take_frame(rt, &mut self.machine);
         self.guest.add_spare(frame);
     }
 
     pub(super) fn set_cap(&mut self, rt: &impl Abort, cap: u32)
-        ensures capacity { self.new.capacity ≡ self.old.capacity }
-        ensures nothing { HasNothingPosted self.old.guest → HasNothingPosted self.new.guest }
+        ensures { HasNothingPosted self.old.guest → HasNothingPosted self.new.guest }
     {
-        let view = self.guest.view();
+        let view = seen(&self.guest);
         demand(rt, view.min <= cap);
         demand(rt, cap <= view.size);
         self.guest.set_cap(cap);
     }
 
     // Sets a minimum for which swap is set aside.
-    pub(super) fn set_min(&mut self, rt: &impl Abort, least: u32)
-        ensures { self.new.capacity ≡ self.old.capacity }
-    {
+    pub(super) fn set_min(&mut self, rt: &impl Abort, least: u32) {
         let view = self.guest.view();
         demand(rt, 1 <= least);
         demand(rt, least <= view.cap);
@@ -238,52 +256,51 @@ impl LoneGuest {
     pub(super) fn set_shares(&mut self, shares: u32)
         requires some { 1 ≤ shares }
         requires few { shares ≤ 1000000 }
-        ensures { self.new.capacity ≡ self.old.capacity }
     {
         self.guest.set_shares(shares);
     }
 
     pub(super) fn view(&self) -> GuestView {
-        self.guest.view()
+        seen(&self.guest)
     }
 
     // Asserts what is shown of the guest.
     pub(super) fn check_view(&self, rt: &impl Abort, view: GuestView) {
-        check_eq(rt, self.guest.view(), view);
+        check_eq(rt, seen(&self.guest), view);
     }
 
     // Asserts the target, the frames held, and the demand.
     pub(super) fn check_wants(&self, rt: &impl Abort, wanted: (u32, u32, u64)) {
-        let view = self.guest.view();
+        let view = seen(&self.guest);
         check_eq(rt, (view.target, view.held, view.demand), wanted);
     }
 
     // Asserts the frames held, the pages in them, and the pages in the swap area.
     pub(super) fn check_pages(&self, rt: &impl Abort, wanted: (u32, u32, u32)) {
-        let view = self.guest.view();
+        let view = seen(&self.guest);
         check_eq(rt, (view.held, view.resident, view.swapped), wanted);
     }
 
     // Asserts the pages in the balloon, and how many the driver says are there.
     pub(super) fn check_balloon(&self, rt: &impl Abort, wanted: (u32, u32)) {
-        let view = self.guest.view();
+        let view = seen(&self.guest);
         check_eq(rt, (view.balloon, view.actual), wanted);
     }
 
     // Asserts how many steps are done, and the page for which the next one waits.
     pub(super) fn check_progress(&self, rt: &impl Abort, done: u32, stalled: Option<u32>) {
-        let view = self.guest.view();
+        let view = seen(&self.guest);
         check_eq(rt, (view.done, view.stalled), (done, stalled));
     }
 
     // Asserts how many bad entries were posted.
     pub(super) fn check_bad(&self, rt: &impl Abort, bad: u64) {
-        check_eq(rt, self.guest.view().bad, bad);
+        check_eq(rt, seen(&self.guest).bad, bad);
     }
 
     // Asserts the active fraction, in parts of 65536.
     pub(super) fn check_active(&self, rt: &impl Abort, active: u32) {
-        check_eq(rt, self.guest.view().active, active);
+        check_eq(rt, seen(&self.guest).active, active);
     }
 
     // Asserts the steps of the next epoch, the pages that they are on, and the nanoseconds beside them.

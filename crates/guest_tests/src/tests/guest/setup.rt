@@ -1,54 +1,11 @@
 // Guests to test with.
-ghost use Rattle.std.specs.Prelude.{◌≡◌, ◌≤◌, All, IfOk, OnOk, length};
-ghost use Rattle.vm_trace.specs.Limits.{IsStep, IsWithin};
+ghost use Rattle.std.specs.Prelude.{◌≡◌, ◌≤◌};
 
+use crate::tests::traces::trace_of;
 use std::alloc::Global;
 use std::process::Abort;
-use std::test::Fail;
 use vm_guest::{GuestSpec, GuestView};
-use vm_trace::{Trace, parse_step_within};
-
-// Adds a step of a guest with four pages.
-fn add_step(trace: &mut Trace, text: &str) -> Result<(), Fail>
-    requires within { All (IsWithin 4) trace.old }
-    requires bounded { All IsStep trace.old }
-    ensures within { OnOk result (All (IsWithin 4) trace.new) }
-    ensures bounded { OnOk result (All IsStep trace.new) }
-{
-    let step = parse_step_within(text, 4)?;
-    // To look at a step's action shows its limits.
-    let _ = step.action();
-    trace.push(step)?;
-    Ok(())
-}
-
-// A trace of a guest with four pages.
-fn trace_of(alloc: Global, steps: &[&str]) -> Result<Trace, Fail>
-    ensures within { IfOk result (All (IsWithin 4)) }
-    ensures bounded { IfOk result (All IsStep) }
-    ensures short { IfOk result (λ trace. length trace ≤ 1000) }
-{
-    let mut trace = Trace::new(alloc);
-    for step in steps {
-        add_step(&mut trace, step)?;
-    }
-    if trace.len() > 1000 {
-        return Err(Fail::from("a long trace"));
-    }
-    Ok(trace)
-}
-
-// The same of texts that are such steps.
-fn good_trace(rt: &(impl Abort + AllocGlobal), steps: &[&str]) -> Trace
-    ensures within { All (IsWithin 4) result }
-    ensures bounded { All IsStep result }
-    ensures short { length result ≤ 1000 }
-{
-    match trace_of(rt.alloc(), steps) {
-        Ok(trace) => trace,
-        Err(_fail) => panic!(rt; "no trace"),
-    }
-}
+use vm_trace::Trace;
 
 // A guest with four pages, all of which are its minimum, and otherwise the defaults of a configuration.
 pub(super) fn plain_guest(rt: &(impl Abort + AllocGlobal), steps: &[&str]) -> GuestSpec {
@@ -63,7 +20,7 @@ pub(super) fn plain_guest(rt: &(impl Abort + AllocGlobal), steps: &[&str]) -> Gu
         seed: 0,
         stream: 0,
         tell: true,
-        trace: good_trace(rt, steps),
+        trace: trace_of(rt, 4, steps),
     }
 }
 
@@ -88,7 +45,7 @@ pub(super) fn small_guest(
         seed: 42,
         stream: 54,
         tell,
-        trace: good_trace(rt, steps),
+        trace: trace_of(rt, 4, steps),
     }
 }
 

@@ -5,19 +5,17 @@ use super::lone_host::{LoneHost, Told, assert_frames, assert_reads, quiet};
 use super::setup::{guest, machine, read};
 use crate::tests::check_eq;
 use std::process::Abort;
-use std::test::Fail;
 use std::thread::Threads;
 use vm_host::{DomainStatistics, MachineSpec, Outcome, Refusal, State, Stats};
 
 const DONE: Outcome = Outcome::Done;
 
 #[test]
-fn overhead(rt: HostRuntime) -> Result<(), Fail> {
+fn overhead(rt: HostRuntime) {
     let rt = &rt;
     let no_memory = Outcome::Refused(Refusal::NoMemory);
-    start_beside(rt, 39, no_memory, quiet(State::High, 39), 1)?;
-    start_beside(rt, 38, DONE, quiet(State::Low, 0), 2)?;
-    Ok(())
+    start_beside(rt, 39, no_memory, quiet(State::High, 39), 1);
+    start_beside(rt, 38, DONE, quiet(State::Low, 0), 2);
 }
 
 // Starts a guest with this minimum beside one of 60 frames, each with a frame of overhead.
@@ -27,33 +25,31 @@ fn start_beside(
     outcome: Outcome,
     told: Told,
     aside: u32,
-) -> Result<(), Fail> {
+) {
     let machine = MachineSpec {
         overhead: 1,
         ..machine(100, 0)
     };
     let guests = [("a", guest(60, 60)), ("b", guest(min, min))];
-    let mut lone = LoneHost::of_guests(rt, machine, &guests, &[])?;
+    let mut lone = LoneHost::of_guests(rt, machine, &guests, &[]);
     lone.round_answers(rt, &[("start a", DONE), ("start b", outcome)], told);
     let host = lone.host();
     let found = (min, host.free(), host.overhead_frames());
     check_eq(rt, found, (min, told.free, aside));
     lone.close();
-    Ok(())
 }
 
 // The swap area has to hold what a guest has above its minimum.
 #[test]
-fn reserves(rt: HostRuntime) -> Result<(), Fail> {
+fn reserves(rt: HostRuntime) {
     let rt = &rt;
     let granted = Told {
         granted: [12, 0],
         ..quiet(State::High, 96)
     };
-    start_with_swap(rt, 12, DONE, granted, Some((16, 16)))?;
+    start_with_swap(rt, 12, DONE, granted, Some((16, 16)));
     let no_swap = Outcome::Refused(Refusal::NoSwap);
-    start_with_swap(rt, 11, no_swap, quiet(State::High, 100), None)?;
-    Ok(())
+    start_with_swap(rt, 11, no_swap, quiet(State::High, 100), None);
 }
 
 // Starts a guest of 16 pages with 4 frames on a machine with a swap area of this size.
@@ -63,20 +59,19 @@ fn start_with_swap(
     outcome: Outcome,
     told: Told,
     frames: Option<(u32, u32)>,
-) -> Result<(), Fail>
+)
     requires few_pages { swap ≤ 1000 }
 {
-    let mut lone = LoneHost::of_guests(rt, machine(100, swap), &[("a", guest(16, 4))], &[])?;
+    let mut lone = LoneHost::of_guests(rt, machine(100, swap), &[("a", guest(16, 4))], &[]);
     lone.round_answers(rt, &[("start a", outcome)], told);
     assert_frames(rt, lone.host(), 0, frames);
     lone.close();
-    Ok(())
 }
 
 #[test]
-fn lowered_reserves(rt: HostRuntime) -> Result<(), Fail> {
+fn lowered_reserves(rt: HostRuntime) {
     let rt = &rt;
-    let mut lone = LoneHost::of_guests(rt, machine(100, 12), &[("a", guest(16, 8))], &[])?;
+    let mut lone = LoneHost::of_guests(rt, machine(100, 12), &[("a", guest(16, 8))], &[]);
     let no_swap = Outcome::Refused(Refusal::NoSwap);
     let wanted = [
         ("start a", DONE),
@@ -93,13 +88,12 @@ fn lowered_reserves(rt: HostRuntime) -> Result<(), Fail> {
     assert_frames(rt, host, 0, Some((16, 16)));
     check_eq(rt, host.free(), 84);
     lone.close();
-    Ok(())
 }
 
 #[test]
-fn sizes(rt: HostRuntime) -> Result<(), Fail> {
+fn sizes(rt: HostRuntime) {
     let rt = &rt;
-    let mut lone = LoneHost::of_guests(rt, machine(1000, 200), &[("web", guest(300, 100))], &[])?;
+    let mut lone = LoneHost::of_guests(rt, machine(1000, 200), &[("web", guest(300, 100))], &[]);
     let wanted = [
         ("start web", DONE),
         ("setmem web 1MB", DONE),
@@ -120,14 +114,13 @@ fn sizes(rt: HostRuntime) -> Result<(), Fail> {
     assert_frames(rt, host, 0, Some((245, 245)));
     check_eq(rt, host.free(), 755);
     lone.close();
-    Ok(())
 }
 
 #[test]
-fn restart(rt: HostRuntime) -> Result<(), Fail> {
+fn restart(rt: HostRuntime) {
     let rt = &rt;
     let steps = ["w 0 0 ff", "r 0 0 4"];
-    let mut lone = LoneHost::of_guests(rt, machine(100, 0), &[("web", guest(4, 4))], &steps)?;
+    let mut lone = LoneHost::of_guests(rt, machine(100, 0), &[("web", guest(4, 4))], &steps);
     let wanted_read = [read(0, &[0xff, 0, 0, 0])];
     lone.round_tells(rt, &["start web"], quiet(State::High, 96));
     assert_reads(rt, lone.host(), &wanted_read);
@@ -140,12 +133,11 @@ fn restart(rt: HostRuntime) -> Result<(), Fail> {
     lone.round_answers(rt, &wanted, quiet(State::High, 96));
     assert_reads(rt, lone.host(), &wanted_read);
     lone.close();
-    Ok(())
 }
 
 // What the driver tells by itself, and what a driver tells that posts a buffer of its own.
 #[test]
-fn statistics(rt: HostRuntime) -> Result<(), Fail> {
+fn statistics(rt: HostRuntime) {
     let rt = &rt;
     let none = Stats::default();
     let by_itself = Stats {
@@ -164,23 +156,18 @@ fn statistics(rt: HostRuntime) -> Result<(), Fail> {
         total: Some(8192),
         ..none
     };
-    statistics_after(rt, "i", by_itself)?;
-    statistics_after(rt, "p s 05000000010000000000", posted)?;
+    statistics_after(rt, "i", by_itself);
+    statistics_after(rt, "p s 05000000010000000000", posted);
     statistics_after(
         rt,
         "p s 040000100000000000006300010000000000000005000020000000000000",
         repeated,
-    )?;
-    Ok(())
+    );
 }
 
 // What is shown of a guest that takes this one step.
-fn statistics_after(
-    rt: &(impl AllocGlobal + Abort + Threads + Sync),
-    step: &str,
-    stats: Stats,
-) -> Result<(), Fail> {
-    let mut lone = LoneHost::of_guests(rt, machine(100, 0), &[("g", guest(4, 4))], &[step])?;
+fn statistics_after(rt: &(impl AllocGlobal + Abort + Threads + Sync), step: &str, stats: Stats) {
+    let mut lone = LoneHost::of_guests(rt, machine(100, 0), &[("g", guest(4, 4))], &[step]);
     let shown = DomainStatistics {
         actual: 16,
         rss: 16,
@@ -190,5 +177,4 @@ fn statistics_after(
     lone.round_tells(rt, &["start g"], told);
     lone.round_answers(rt, &[("dommemstat g", Outcome::Shown(shown))], told);
     lone.close();
-    Ok(())
 }

@@ -6,16 +6,15 @@ use super::setup::{guest, machine, read};
 use crate::tests::check_eq;
 use std::process::Abort;
 use std::sync::atomic::{AtomicU64, Ordering};
-use std::test::Fail;
 use std::thread;
 use std::thread::Threads;
 use vm_host::{Gate, Host, HostError, Lines, MachineSpec, Open, Outcome, Ran, State};
 
 #[test]
-fn first_read(rt: HostRuntime) -> Result<(), Fail> {
+fn first_read(rt: HostRuntime) {
     let rt = &rt;
     let steps = ["w 0 0 ff", "r 0 0 4"];
-    let mut lone = LoneHost::of_guests(rt, machine(100, 0), &[("web", guest(4, 4))], &steps)?;
+    let mut lone = LoneHost::of_guests(rt, machine(100, 0), &[("web", guest(4, 4))], &steps);
     assert_nothing_runs(rt, lone.host());
     lone.round_answers(rt, &[("start web", Outcome::Done)], quiet(State::High, 96));
     let host = lone.host();
@@ -27,7 +26,6 @@ fn first_read(rt: HostRuntime) -> Result<(), Fail> {
     assert_first_byte(rt, host, "web", 4, None);
     assert_first_byte(rt, host, "c", 0, None);
     lone.close();
-    Ok(())
 }
 
 // All 100 frames are free, and nothing is shown.
@@ -77,11 +75,11 @@ fn begin(rt: &(impl AllocGlobal + Abort), lone: &mut LoneHost) {
 
 // The domains of a closed host come back in order, and a host that is made of them goes the same way.
 #[test]
-fn domains_come_back(rt: HostRuntime) -> Result<(), Fail> {
+fn domains_come_back(rt: HostRuntime) {
     let rt = &rt;
     let steps = ["w 0 0 ff", "r 0 0 4"];
     let guests = [("web", guest(4, 4)), ("db", guest(2, 2))];
-    let mut lone = LoneHost::of_guests(rt, machine(100, 0), &guests, &steps)?;
+    let mut lone = LoneHost::of_guests(rt, machine(100, 0), &guests, &steps);
     check_eq(rt, lone.host().machine().frames, 100);
     begin(rt, &mut lone);
     let domains = lone.close();
@@ -91,7 +89,6 @@ fn domains_come_back(rt: HostRuntime) -> Result<(), Fail> {
     assert_nothing_runs(rt, again.host());
     begin(rt, &mut again);
     again.close();
-    Ok(())
 }
 
 // Each of two tickets sets its own mark, and looks for the other's.
@@ -144,20 +141,19 @@ impl Gate for Meeting {
 
 // One thread alone fails here, in whatever order it runs the guests.
 #[test]
-fn two_tickets_at_once(rt: HostRuntime) -> Result<(), Fail> {
+fn two_tickets_at_once(rt: HostRuntime) {
     let rt = &rt;
     let machine = MachineSpec {
         overhead: 1,
         ..machine(100, 0)
     };
     let guests = [("a", guest(60, 60)), ("b", guest(38, 38))];
-    let mut lone = LoneHost::of_guests(rt, machine, &guests, &[])?;
+    let mut lone = LoneHost::of_guests(rt, machine, &guests, &[]);
     let gate = nobody_met();
     lone.boundary_tells(rt, &["start a", "start b"], quiet(State::Low, 0));
     lone.epoch(rt, &gate, 2);
     lone.close();
     assert_met(rt, &gate);
-    Ok(())
 }
 
 // Asserts that each ticket saw the other's mark.
@@ -193,29 +189,25 @@ impl Gate for Silent {
 }
 
 #[test]
-fn where_memory_is_refused_frames_add_up(rt: HostRuntime) -> Result<(), Fail> {
+fn where_memory_is_refused_frames_add_up(rt: HostRuntime) {
     check_refusals(&rt, &Open)
 }
 
 #[test]
-fn where_a_round_is_refused_memory_frames_add_up(rt: HostRuntime) -> Result<(), Fail> {
+fn where_a_round_is_refused_memory_frames_add_up(rt: HostRuntime) {
     check_refusals(&rt, &Silent)
 }
 
 // At each request for memory that fails in turn: a boundary that lacked it leaves a host that can be read and closed, and an epoch that
 // lacked it may be asked for again.
-fn check_refusals(
-    rt: &(impl AllocGlobal + Abort + Threads + Sync),
-    gate: &(impl Gate + Sync),
-) -> Result<(), Fail> {
+fn check_refusals(rt: &(impl AllocGlobal + Abort + Threads + Sync), gate: &(impl Gate + Sync)) {
     let mut lines = Lines::new(rt.alloc());
-    lines.push("start a")?;
+    lines.push("start a").expect(rt, "memory");
     let steps = ["w 0 0 0a"];
-    let mut lone = LoneHost::of_guests(rt, machine(16, 4), &[("a", guest(8, 4))], &steps)?;
+    let mut lone = LoneHost::of_guests(rt, machine(16, 4), &[("a", guest(8, 4))], &steps);
     assert_goes_on(rt, gate, &mut lone, &lines);
     assert_adds_up(rt, lone.host());
     lone.close();
-    Ok(())
 }
 
 // Asserts how a host goes on, be its boundary refused memory, its epoch, or neither.

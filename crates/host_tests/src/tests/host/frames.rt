@@ -5,19 +5,18 @@ use super::lone_host::{
 use super::setup::{Shape, guest, machine, read};
 use crate::tests::check_eq;
 use std::process::Abort;
-use std::test::Fail;
 use std::thread::Threads;
 use vm_host::{MachineSpec, Outcome, Paged, State};
 
 #[test]
-fn host_alone(rt: HostRuntime) -> Result<(), Fail> {
+fn host_alone(rt: HostRuntime) {
     let rt = &rt;
     let mut lone = LoneHost::of_guests(
         rt,
         machine(100, 90),
         &[("a", guest(100, 10)), ("b", guest(2, 2))],
         &[],
-    )?;
+    );
 
     let wanted = Told {
         granted: [86, 0],
@@ -35,7 +34,6 @@ fn host_alone(rt: HostRuntime) -> Result<(), Fail> {
     assert_sizes(rt, host, 0, (91, 91, 9));
     assert_frames(rt, host, 1, Some((2, 2)));
     lone.close();
-    Ok(())
 }
 
 // Starts the second guest in Low, with a frame that the first one gives up at once.
@@ -54,7 +52,7 @@ fn assert_second_starts(rt: &(impl AllocGlobal + Abort + Threads + Sync), lone: 
 }
 
 #[test]
-fn low_and_back(rt: HostRuntime) -> Result<(), Fail> {
+fn low_and_back(rt: HostRuntime) {
     let rt = &rt;
     let machine = MachineSpec {
         page_rate: 1,
@@ -69,7 +67,7 @@ fn low_and_back(rt: HostRuntime) -> Result<(), Fail> {
         machine,
         &[("a", reader), ("b", guest(5, 5))],
         &["i", "r 0 0 1", "r 1 0 1"],
-    )?;
+    );
 
     let wanted = Told {
         granted: [86, 0],
@@ -88,11 +86,10 @@ fn low_and_back(rt: HostRuntime) -> Result<(), Fail> {
     assert_frames(rt, host, 1, Some((5, 5)));
     check_eq(rt, host.free(), 7);
     lone.close();
-    Ok(())
 }
 
 #[test]
-fn raised_minimum(rt: HostRuntime) -> Result<(), Fail> {
+fn raised_minimum(rt: HostRuntime) {
     let rt = &rt;
     let large = Shape {
         quantum: 1,
@@ -103,7 +100,7 @@ fn raised_minimum(rt: HostRuntime) -> Result<(), Fail> {
         quantum: 1,
         ..guest(20, 2)
     };
-    let mut lone = LoneHost::of_guests(rt, machine(100, 98), &[("a", large), ("b", small)], &[])?;
+    let mut lone = LoneHost::of_guests(rt, machine(100, 98), &[("a", large), ("b", small)], &[]);
 
     let wanted = Told {
         granted: [80, 4],
@@ -127,5 +124,4 @@ fn raised_minimum(rt: HostRuntime) -> Result<(), Fail> {
     assert_sizes(rt, host, 1, (16, 16, 14));
     check_eq(rt, host.free(), 7);
     lone.close();
-    Ok(())
 }

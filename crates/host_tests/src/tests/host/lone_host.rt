@@ -4,7 +4,6 @@ ghost use Rattle.std.specs.Prelude.{◌≤◌};
 use super::setup::{Shape, add_guest};
 use crate::tests::check_eq;
 use std::process::Abort;
-use std::test::Fail;
 use std::thread::Threads;
 use vm_host::{
     Boundary, Domains, Gate, Host, HostError, Lines, MachineSpec, Open, Outcome, PageRead, Paged,
@@ -34,10 +33,10 @@ impl LoneHost {
         machine: MachineSpec,
         guests: &[(&str, Shape)],
         steps: &[&str],
-    ) -> Result<LoneHost, Fail> {
+    ) -> LoneHost {
         let mut domains = Domains::new(rt.alloc());
-        add_guests(rt, &mut domains, guests, steps)?;
-        Ok(LoneHost::new(rt, machine, domains))
+        add_guests(rt, &mut domains, guests, steps);
+        LoneHost::new(rt, machine, domains)
     }
 
     // A boundary for which memory may be refused.
@@ -148,15 +147,14 @@ fn add_guests(
     domains: &mut Domains,
     guests: &[(&str, Shape)],
     steps: &[&str],
-) -> Result<(), Fail> {
+) {
     for (place, (name, shape)) in guests.iter().enumerate() {
         if place == 0 {
-            add_guest(rt, domains, name, *shape, steps)?;
+            add_guest(rt, domains, name, *shape, steps);
         } else {
-            add_guest(rt, domains, name, *shape, &[])?;
+            add_guest(rt, domains, name, *shape, &[]);
         }
     }
-    Ok(())
 }
 
 // Lines with these texts.

@@ -1,10 +1,8 @@
 // Machines and guests to test with.
-ghost use Rattle.std.specs.Prelude.{◌≤◌, All, IfOk, OnOk, length};
+ghost use Rattle.std.specs.Prelude.{◌≤◌, All, length};
 ghost use Rattle.vm_trace.specs.Limits.{IsStep, IsWithin};
 
-use std::alloc::Global;
 use std::process::Abort;
-use std::test::Fail;
 use vm_host::{Domains, GuestSpec, MachineSpec, PageRead, Percents};
 use vm_trace::{Bytes, Trace, parse_step_within};
 
@@ -30,37 +28,38 @@ pub(super) fn machine(frames: u32, swap: u32) -> MachineSpec
 }
 
 // Adds a step of a guest of this size to a trace.
-fn add_step(trace: &mut Trace, size: u32, text: &str) -> Result<(), Fail>
+fn add_step(rt: &impl Abort, trace: &mut Trace, size: u32, text: &str)
     requires some_pages { 1 ≤ size }
     requires few_pages { size ≤ 262144 }
     requires within { All (IsWithin size) trace.old }
     requires bounded { All IsStep trace.old }
-    ensures within { OnOk result (All (IsWithin size) trace.new) }
-    ensures bounded { OnOk result (All IsStep trace.new) }
+    ensures within { All (IsWithin size) trace.new }
+    ensures bounded { All IsStep trace.new }
 {
-    let step = parse_step_within(text, size)?;
+    let Ok(step) = parse_step_within(text, size) else {
+        panic!(rt; "no step")
+    };
     // To look at a step's action shows its limits.
     let _ = step.action();
-    trace.push(step)?;
-    Ok(())
+    let Ok(()) = trace.push(step) else {
+        panic!(rt; "memory")
+    };
 }
 
 // A trace of a guest of this size.
-fn trace_of(alloc: Global, size: u32, steps: &[&str]) -> Result<Trace, Fail>
+fn trace_of(rt: &(impl AllocGlobal + Abort), size: u32, steps: &[&str]) -> Trace
     requires some_pages { 1 ≤ size }
     requires few_pages { size ≤ 262144 }
-    ensures within { IfOk result (All (IsWithin size)) }
-    ensures bounded { IfOk result (All IsStep) }
-    ensures short { IfOk result (λ trace. length trace ≤ 1000) }
+    ensures within { All (IsWithin size) result }
+    ensures bounded { All IsStep result }
+    ensures short { length result ≤ 1000 }
 {
-    let mut trace = Trace::new(alloc);
+    let mut trace = Trace::new(rt.alloc());
     for step in steps {
-        add_step(&mut trace, size, step)?;
+        add_step(rt, &mut trace, size, step);
     }
-    if trace.len() > 1000 {
-        return Err(Fail::from("a long trace"));
-    }
-    Ok(trace)
+    assert!(rt; trace.len() <= 1000);
+    trace
 }
 
 // What a test says of a guest. The rest are the defaults of a configuration.
@@ -89,7 +88,7 @@ pub(super) fn add_guest(
     name: &str,
     shape: Shape,
     steps: &[&str],
-) -> Result<(), Fail> {
+) {
     assert!(rt; 1 <= shape.min && shape.min <= shape.size && shape.size <= 1000);
     assert!(rt; 1 <= shape.shares && shape.shares <= 1000);
     assert!(rt; 1 <= shape.quantum && shape.quantum <= 100);
@@ -105,11 +104,11 @@ pub(super) fn add_guest(
         seed: 0,
         stream: 0,
         tell: true,
-        trace: trace_of(rt.alloc(), shape.size, steps)?,
+        trace: trace_of(rt, shape.size, steps),
     };
     match domains.push(name, spec) {
-        Ok(()) => Ok(()),
-        Err(_spec) => Err(Fail::from("memory")),
+        Ok(()) => {}
+        Err(_spec) => panic!(rt; "memory"),
     }
 }
 

@@ -3,7 +3,7 @@ use Rattle.vm_trace.specs.Limits.{IsStep, IsWithin}
 use Rattle.host_tests.proofs.tests.host.setup.trace_of.Given as goal
 
 abbrev pub invariant-loop-step : goal.invariant-loop-step
-invariant-loop-step l = record {
+invariant-loop-step g l = record {
   within : All (IsWithin l.size) l.trace;
   bounded : All IsStep l.trace;
 }

@@ -1,6 +1,0 @@
-use Rattle.std.proofs.lemmas.List.Elements.{All-push}
-use Rattle.vm_trace.specs.Limits.{IsWithin}
-use Rattle.guest_tests.proofs.tests.guest.setup.add_step.Goals as goal
-
-pub returns-clause-within : goal.returns-clause-within
-returns-clause-within c = rw c.in_ok-push.ensures.ok (All-push (IsWithin 4) c.args.trace.now c.in_ok-step.step c.requires.within c.in_ok-step.ensures.within)

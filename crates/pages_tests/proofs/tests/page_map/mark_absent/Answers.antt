@@ -1,0 +1,6 @@
+use Rattle.std.proofs.Common.{length, ap, ◌∙◌}
+use Rattle.std.proofs.lemmas.List.{length-set}
+use Rattle.pages_tests.proofs.tests.page_map.mark_absent.Goals as goal
+
+pub returns : goal.returns
+returns g c = ap length c.mark_absent.ensures ∙ length-set _ _ _ ∙ c.requires.size
