@@ -1,4 +1,4 @@
-use Rattle.std.proofs.Common.{◌≡◌, ◌∙◌, ℕ, Option, Some, None, ap, slice_get}
+use Rattle.std.proofs.Common.{◌≡◌, ◌∙◌, ℕ, Fits, w32, ◌+◌, ◌≤◌, Option, Some, None, ap, arith, slice_get}
 use Rattle.vm_guest.specs.Record.{GuestRecord}
 use Rattle.vm_pool.specs.Changes.{frames_to_start}
 use Rattle.vm_pool.specs.Pool.{PoolView, guest_at, stopped_config, unless_runs}
@@ -18,3 +18,10 @@ pub returns-in-None : goal.returns-in-None
 returns-in-None c =
     let pool = c.args.pool.now in
     ap (frames_to_start pool.overhead) (c.in-None.ensures ∙ here pool c.args.position c.requires.stopped)
+
+needed-fits : (min size told overhead : ℕ) → min ≤ size → size ≤ 262144 → told ≡ overhead → overhead ≤ 1024 → Fits w32 (min + told)
+needed-fits min size told overhead within few same low = omega arith
+
+pub overflow_add-result : goal.overflow_add-result
+overflow_add-result c =
+    needed-fits c.spec.inside.min c.spec.inside.size c.overhead.result c.args.pool.now.overhead c.spec.invariant.min_within c.spec.invariant.few_pages c.overhead.ensures c.requires.overhead

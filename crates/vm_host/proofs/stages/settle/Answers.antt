@@ -1,4 +1,6 @@
-use Rattle.std.proofs.Common.{◌≡◌, ◌∙◌, ℕ, Bool, List, ap, arith, refl, subst, sym}
+use Rattle.std.proofs.Common.{◌≡◌, ◌∙◌, ◌<◌, ℕ, Bool, List, OnOk, Result, Ok, Err, ap, arith, length, refl, subst, sym}
+use Rattle.std.proofs.lemmas.Result.{IfOk-from_err}
+use Rattle.std.specs.Result.{IsErr}
 use Rattle.vm_plan.specs.declared.state.State.{State}
 use Rattle.vm_plan.specs.State.{next_state_of}
 use Rattle.vm_pool.specs.Changes.{with_orders}
@@ -14,7 +16,8 @@ use Rattle.vm_host.specs.Answers.{AnswerValue}
 use Rattle.vm_host.specs.Boundary.{done_after_lines, finished}
 use Rattle.vm_host.specs.Parts.{world_of}
 use Rattle.vm_host.specs.World.{World}
-use Rattle.vm_host.proofs.SetupLemmas.{setup-settled}
+use Rattle.vm_host.proofs.RefusedLemmas.{refused}
+use Rattle.vm_host.proofs.SetupLemmas.{setup-none, setup-settled}
 use Rattle.vm_host.proofs.stages.settle.Goals as goal
 
 pub plan_boundary-requires : goal.plan_boundary-requires
@@ -72,3 +75,24 @@ returns-clause-kept c =
       names = refl;
       setup = subst (HasSameSetup first) (sym moved) (setup-settled (policy_in c.numbers_of-numbers.result) c.next_state-state.result blocks first);
     }
+
+-- ---- memory was refused
+
+none-done : {A E : Type 0} (r : Result A E) (P : Type 0) → IsErr r → OnOk r P
+none-done (Ok x) P is = absurd cc
+none-done (Err e) P is = tt
+
+pub returns-in_err-plan-clause-done : goal.returns-in_err-plan-clause-done
+returns-in_err-plan-clause-done c = none-done c.from_residual.result _ c.from_residual.ensures.0
+
+pub returns-in_err-plan-clause-told : goal.returns-in_err-plan-clause-told
+returns-in_err-plan-clause-told c = IfOk-from_err c.from_residual.result _ c.from_residual.ensures.0
+
+pub returns-in_err-plan-clause-kept : goal.returns-in_err-plan-clause-kept
+returns-in_err-plan-clause-kept c = record { machine = refl; names = refl; setup = setup-none c.args.parts.now.pool }
+
+pub returns-in_err-plan-clause-unchanged : goal.returns-in_err-plan-clause-unchanged
+returns-in_err-plan-clause-unchanged c = refused c.from_residual.result (world_of c.args.parts.now ≡ world_of c.args.parts.now) refl
+
+pub returns-in_err-plan-clause-wanted : goal.returns-in_err-plan-clause-wanted
+returns-in_err-plan-clause-wanted c = refused c.from_residual.result (0 < length c.args.parts.now.pool.guests) c.in_err-plan.ensures.memory

@@ -1,4 +1,4 @@
-use Rattle.std.proofs.Common.{◌≡◌, ◌∙◌, ◌+◌, ◌≤◌, All, Result, Ok, Err, IfErr, List, ℕ, ap, arith, refl, subst, sym}
+use Rattle.std.proofs.Common.{◌≡◌, ◌∙◌, ◌+◌, ◌<◌, ◌≤◌, All, Result, Ok, Err, IfErr, List, ℕ, ap, arith, refl, subst, sym}
 use Rattle.std.proofs.lemmas.List.{take_at}
 use Rattle.std.proofs.lemmas.Result.{IfOk-from_err}
 use Rattle.std.specs.declared.alloc.AllocError.{AllocError}
@@ -26,6 +26,9 @@ no_more told counts fallen all sum given held = omega arith
 
 few_rows : (rows len items guests : ℕ) → rows ≡ len → len ≡ items → items ≡ guests → guests ≤ 256 → rows ≤ 256
 few_rows rows len items guests same long all few = omega arith
+
+some_rows : (rows len items guests : ℕ) → rows ≡ len → len ≡ items → items ≡ guests → 0 < rows → 0 < guests
+some_rows rows len items guests same long all some = omega arith
 
 some_guest : (r : Result BoundaryPlan AllocError) {P : Type 0} → P → IfErr r (λ _. P)
 some_guest (Ok plan) some = tt
@@ -238,3 +241,17 @@ returns-in_err-rows-clause-memory c = some_guest c.from_residual.result c.in_err
 
 pub returns-in_err-revoked-clause-memory : goal.returns-in_err-revoked-clause-memory
 returns-in_err-revoked-clause-memory c = some_guest c.from_residual-in_err-revoked.result c.in_err-revoked.ensures.memory
+
+pub returns-in_err-paged-clause-memory : goal.returns-in_err-paged-clause-memory
+returns-in_err-paged-clause-memory c =
+    some_guest c.from_residual-in_err-paged.result (some_rows _ _ _ _ c.deref_mut-2.ensures.len c.in_ok-rows.rows.ok.0 c.in_ok-rows.ensures.length c.in_err-paged.ensures.memory)
+
+pub returns-in_err-blocked-clause-memory : goal.returns-in_err-blocked-clause-memory
+returns-in_err-blocked-clause-memory c =
+    some_guest c.from_residual-in_err-blocked.result (some_rows _ _ _ _ c.deref-2.ensures.len c.in_ok-rows.rows.ok.0 c.in_ok-rows.ensures.length c.in_err-blocked.ensures.memory)
+
+pub returns-clause-taken_fairly : goal.returns-clause-taken_fairly
+returns-clause-taken_fairly c = c.in_ok-revoked.ensures.fair
+
+pub returns-clause-enough : goal.returns-clause-enough
+returns-clause-enough c = c.in_ok-revoked.ensures.enough

@@ -57,3 +57,12 @@ returns-clause-plan c =
     let policy = policy_in c.args.numbers.now in
     c.in_ok-plan.ensures.exact
     ∙ (λ i. revocation_list policy.tax (shortfall_of c.args.state (c.free.ensures.free i) policy.thresholds (c.requires.rows i)) (c.requires.rows i))
+
+pub revoke-requires-clause-held : goal.revoke-requires-clause-held
+revoke-requires-clause-held c = c.requires.held
+
+pub lower_targets-requires-clause-held : goal.lower_targets-requires-clause-held
+lower_targets-requires-clause-held c = c.requires.held
+
+pub returns-clause-held : goal.returns-clause-held
+returns-clause-held c = c.lower_targets.ensures.held

@@ -1,4 +1,4 @@
-use Rattle.std.proofs.Common.{◌≡◌, ◌∙◌, ℕ, ◌+◌, ◌-◌, ◌<◌, List, [], ◌∷◌, ◌++◌, drop, get_or, length, min, ap, sym, arith}
+use Rattle.std.proofs.Common.{◌≡◌, ◌∙◌, ℕ, ◌+◌, ◌-◌, ◌<◌, ◌≤◌, List, [], ◌∷◌, ◌++◌, drop, get_or, length, min, ap, refl, sym, arith}
 use Rattle.std.proofs.lemmas.List.{drop_more}
 use Rattle.std.proofs.Math.ListN.{drop_of_length-le}
 use Rattle.vm_plan.specs.declared.row.PlanRow.{PlanRow}
@@ -57,3 +57,18 @@ pub returns-clause-short : goal.returns-clause-short
 returns-clause-short c =
     let none = ap (λ (l : List PlanRow). shares_of c.loop-row.left (rows_of l)) (drop_of_length-le c.args.rows.now c.loop-row-test.false) in
     less_none c.loop-row.left ∙ (ap (λ l. c.loop-row.left - sum_of l) (sym none) ∙ c.loop-row.invariant.short)
+
+pub loop-row-init : goal.loop-row-init
+loop-row-init c =
+    let short = c.args.short in
+    let rows = c.args.rows.now in
+    record {
+      done = ap (λ (l : List ℕ). l ++ shares_of short (rows_of rows)) c.in_ok-counts.ensures.items;
+      short = refl;
+    }
+
+at_most : (count left over : ℕ) → count ≡ min left over → count ≤ left
+at_most count left over is = omega arith
+
+pub overflow_sub-left : goal.overflow_sub-left
+overflow_sub-left c = at_most c.min-count.result c.loop-row.left c.saturating_sub.result c.min-count.ensures

@@ -1,9 +1,11 @@
 use Rattle.std.proofs.Common.{◌≡◌, ℕ, ◌+◌, ◌++◌, ◌<◌, ◌≤◌, All, IfSome, List, ◌∙◌, ap, sym, subst, arith, drop, length}
+use Rattle.std.proofs.lemmas.List.{length-map}
 use Rattle.std.proofs.lemmas.List.Elements.{All-nil, All-push}
 use Rattle.std.proofs.Math.ListN.{drop_of_length-le}
 use borrow.Author.Count.{below_more, below_none}
 use Rattle.vm_guest.specs.Good.{IsGood}
 use Rattle.vm_plan.specs.declared.row.PlanRow.{PlanRow}
+use Rattle.vm_plan.specs.Row.{Row}
 use Rattle.vm_plan.specs.PlanRow.{row_of as plan_row, rows_of as plan_rows}
 use Rattle.vm_pool.specs.Guests.{Guests, guest_in}
 use Rattle.vm_reclaim.specs.Rows.{row_at, rows_of}
@@ -58,3 +60,13 @@ returns-clause-rows c =
     let rows = plan_rows c.loop-position.rows.items in
     let past = all_seen (length guests) c.len-position-end.result c.loop-position.position c.loop-position.invariant.ends c.loop-position-test.false in
     sym (append-nil rows) ∙ (ap (λ (l : Guests). rows ++ rows_of l) (sym (drop_of_length-le guests past)) ∙ c.loop-position.invariant.done)
+
+-- there are as many
+as_many : (rows : List PlanRow) (guests : Guests) → plan_rows rows ≡ rows_of guests → length rows ≡ length guests
+as_many rows guests same = sym (length-map rows plan_row) ∙ (ap (λ (l : List Row). length l) same ∙ length-map guests row_at)
+
+pub returns-clause-length : goal.returns-clause-length
+returns-clause-length c = as_many c.loop-position.rows.items c.args.pool.now.guests (returns-clause-rows c)
+
+pub returns-clause-held : goal.returns-clause-held
+returns-clause-held c = c.loop-position.invariant.held
