@@ -53,29 +53,6 @@ fn keep_runs(done: &[RunDone], runs: &mut Vec<SweptRun>) -> Result<(), AllocErro
     Ok(())
 }
 
-// Runs the next of those that are left, and keeps what is drawn of each.
-fn run_some<RT: Threads + Sync>(
-    rt: &RT,
-    alloc: Global,
-    left: &mut IntoIter<RunJob>,
-    places: &mut Vec<Workplace>,
-    runs: &mut Vec<SweptRun>,
-) -> Result<(), AllocError>
-    requires places { (0 < vec_len places.old) × (vec_len places.old ≤ 64) }
-    requires left { 0 < into_iter_len left.old }
-    requires counted { into_iter_len left.old ≡ length (into_iter_items left.old) }
-    requires under_way { IsUnderWay (into_iter_items left.old) places.old.items }
-    ensures kept { OnOk result (runs.new.items ++ map swept_of (into_iter_items left.new)
-        ≡ runs.old.items ++ map swept_of (into_iter_items left.old)) }
-    ensures fewer { OnOk result (into_iter_len left.new < into_iter_len left.old) }
-    ensures counted { OnOk result (into_iter_len left.new ≡ length (into_iter_items left.new)) }
-    ensures under_way { OnOk result (IsUnderWay (into_iter_items left.new) places.new.items) }
-    ensures places { vec_len places.new ≡ vec_len places.old }
-{
-    let done = run_next(rt, alloc, left, places)?;
-    keep_runs(&done, runs)
-}
-
 // Runs what is left, round by round, and keeps what is drawn of each run.
 fn run_all<RT: Threads + Sync, P: Progress>(
     rt: &RT,
@@ -92,7 +69,8 @@ fn run_all<RT: Threads + Sync, P: Progress>(
     let all = left.len();
     let mut runs = Vec::new(alloc);
     while left.len() > 0 {
-        run_some(rt, alloc, &mut left, places, &mut runs)?;
+        let done = run_next(rt, alloc, &mut left, places)?;
+        keep_runs(&done, &mut runs)?;
         progress.report(all.saturating_sub(left.len()), all);
     }
     Ok(runs)

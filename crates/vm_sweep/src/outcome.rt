@@ -1,11 +1,9 @@
 //! What is told of a run.
 ghost use Rattle.std.specs.Prelude.{◌≡◌, IfOk};
-ghost use Rattle.vm_domains.specs.Domains.{names_of};
 ghost use Rattle.vm_sweep.specs.Outcomes.{Tells};
 
 use std::alloc::Global;
 use vm_config::Config;
-use vm_domains::Names;
 use vm_sim::RunError;
 use vm_tally::{
     Combination, Summary, guest_names, guest_records_text, run_alone, run_guests_alone,
@@ -38,34 +36,10 @@ fn run_by_guests(
     ensures told { IfOk result (λ r. Tells Detail.EachGuest combination.now config r.0) }
     ensures back { IfOk result (λ r. r.1 ≡ config) }
 {
-    let Ok(names) = guest_names(alloc, &mut config) else {
-        drop(config);
-        return Err(RunError::Memory);
-    };
-    run_named(alloc, combination, &names, config)
-}
-
-// The same for a configuration whose guests have these names.
-fn run_named(
-    alloc: Global,
-    combination: &Combination,
-    names: &Names,
-    config: Config,
-) -> Result<(Outcome, Config), RunError>
-    requires { names.now ≡ names_of config.domains }
-    ensures told { IfOk result (λ r. Tells Detail.EachGuest combination.now config r.0) }
-    ensures back { IfOk result (λ r. r.1 ≡ config) }
-{
+    let names = guest_names(alloc, &mut config)?;
     let (summaries, config) = run_guests_alone(alloc, config)?;
-    let records = guest_records_text(alloc, combination, names, &summaries);
-    drop(summaries);
-    match records {
-        Ok(records) => Ok((Outcome::AsRecords(records), config)),
-        Err(_) => {
-            drop(config);
-            Err(RunError::Memory)
-        }
-    }
+    let records = guest_records_text(alloc, combination, &names, &summaries)?;
+    Ok((Outcome::AsRecords(records), config))
 }
 
 /// Runs a configuration that has these values to its end in the caller's thread. It comes back; where memory is refused, which is the

@@ -1,14 +1,16 @@
-use Rattle.std.proofs.Common.{◌≡◌, IfOk, subst}
-use Rattle.vm_config.specs.declared.config.Config.{Config}
-use Rattle.vm_sweep.specs.Outcomes.{Tells}
-use Rattle.vm_sweep.specs.declared.outcome.Detail.TheVariants.{EachGuest}
+use Rattle.std.proofs.Common.{◌∙◌, ap}
+use Rattle.vm_domains.specs.Domains.{names_of}
+use Rattle.vm_tally.specs.GuestSummary.{guest_summaries_of}
+use Rattle.vm_tally.specs.GuestTable.{guest_records}
 use Rattle.vm_sweep.proofs.outcome.run_by_guests.Goals as goal
 
 pub returns-clause-told : goal.returns-clause-told
 returns-clause-told c =
-    subst (λ (config : Config). IfOk c.run_named.result (λ r. Tells EachGuest c.args.combination.now config r.0)) c.guest_names.ensures.unchanged
-    c.run_named.ensures.told
+    let values = c.args.combination.now in
+    let names = c.in_ok-names.ensures.names in
+    let summaries = c.deref.ensures.value ∙ c.in_ok-summaries.ensures.summaries ∙ ap guest_summaries_of c.guest_names.ensures.unchanged in
+    c.in_ok-records.ensures ∙ ap (λ list. guest_records values list c.deref.result.now) names
+    ∙ ap (guest_records values (names_of c.args.config.domains)) summaries
 
 pub returns-clause-back : goal.returns-clause-back
-returns-clause-back c =
-    subst (λ (config : Config). IfOk c.run_named.result (λ r. r.1 ≡ config)) c.guest_names.ensures.unchanged c.run_named.ensures.back
+returns-clause-back c = c.in_ok-summaries.ensures.back ∙ c.guest_names.ensures.unchanged
