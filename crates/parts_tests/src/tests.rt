@@ -1,10 +1,12 @@
 mod admission;
 mod commands;
 mod json;
+mod lackey;
 mod lists;
 mod plan;
 mod tax;
 mod traces;
+mod working_set;
 
 use std::alloc::Global;
 use std::fmt::{Debug, Display};

@@ -1,7 +1,7 @@
-//! The tests of whole runs: of `vm_sim`, `vm_series`, `vm_command_line`, of `vm_import` and of rounds with tools, and of the four
-//! programs, by their public calls.
+//! The tests of the four programs, by their public calls, with those of `vm_command_line`, of runs told in numbers and of rounds with
+//! tools.
 //!
-//! They are one crate of their own, since each crate of such tests is made into a program with all that is below it.
+//! They are a crate of their own, since each crate of such tests is made into a program with all that is below it.
 #![tactic(auto)]
 
 #[cfg(test)]

@@ -3,10 +3,9 @@ ghost use Rattle.std.specs.Prelude.{◌≡◌, ◌∷◌, []};
 ghost use Rattle.vm_command_line.specs.Words.{HasWorkersInRange, workers_rule};
 ghost use Rattle.vm_words.specs.Words.{line_of};
 
+use super::check_eq;
 use super::system::{assert_has_spoken, assert_said, assert_status, with_words};
-use std::alloc::{AllocError, Global};
 use std::process::Abort;
-use std::test::Fail;
 use vm_command_line::{WORKERS, complain, workers_of};
 use vm_sim::{ConfigError, RunError};
 use vm_words::{CommandLine, Flag, Request};
@@ -33,12 +32,13 @@ const FLAGGED: CommandLine = CommandLine {
     values: &[WORKERS],
 };
 
-fn texts(alloc: Global, words: &[&str]) -> Result<Vec<String>, AllocError> {
-    let mut texts = Vec::new(alloc);
+fn texts(rt: &(impl AllocGlobal + Abort), words: &[&str]) -> Vec<String> {
+    let mut texts = Vec::new(rt.alloc());
     for word in words {
-        texts.push(String::from_str(alloc, word)?)?;
+        let text = String::from_str(rt.alloc(), word).expect(rt, "memory");
+        texts.push(text).expect(rt, "memory");
     }
-    Ok(texts)
+    texts
 }
 
 // How many workers are asked for, and whether the flag is given.
@@ -54,41 +54,40 @@ fn assert_request(
     line: &CommandLine,
     words: &[&str],
     wanted: Option<(u32, bool)>,
-) -> Result<(), Fail>
+)
     requires { (line_of line.now).values ≡ workers_rule ∷ [] }
 {
-    let texts = texts(rt.alloc(), words)?;
+    let texts = texts(rt, words);
     let system = with_words(rt.alloc(), words);
     let found = match line.request(&system, texts.as_slice()) {
         Ok(request) => Some(asked(&request)),
         Err(_) => None,
     };
-    assert_eq!(rt; found, wanted);
+    check_eq(rt, found, wanted);
     assert_has_spoken(rt, system, wanted.is_none());
-    Ok(())
 }
 
 #[test]
-fn words_ask_for_workers(rt: HostRuntime) -> Result<(), Fail> {
-    assert_request(&rt, &PLAIN, &["plain"], Some((1, false)))?;
+fn words_ask_for_workers(rt: HostRuntime) {
+    assert_request(&rt, &PLAIN, &["plain"], Some((1, false)));
     assert_request(
         &rt,
         &PLAIN,
         &["plain", "--workers", "64"],
         Some((64, false)),
-    )?;
-    assert_request(&rt, &PLAIN, &["plain", "--svg"], None)?;
-    assert_request(&rt, &PLAIN, &["plain", "--workers=65"], None)
+    );
+    assert_request(&rt, &PLAIN, &["plain", "--svg"], None);
+    assert_request(&rt, &PLAIN, &["plain", "--workers=65"], None);
 }
 
 #[test]
-fn words_ask_for_a_flag(rt: HostRuntime) -> Result<(), Fail> {
-    assert_request(&rt, &FLAGGED, &["flagged"], Some((1, false)))?;
-    assert_request(&rt, &FLAGGED, &["flagged", "--svg"], Some((1, true)))?;
+fn words_ask_for_a_flag(rt: HostRuntime) {
+    assert_request(&rt, &FLAGGED, &["flagged"], Some((1, false)));
+    assert_request(&rt, &FLAGGED, &["flagged", "--svg"], Some((1, true)));
     let both = &["flagged", "--workers", "2", "--svg"];
-    assert_request(&rt, &FLAGGED, both, Some((2, true)))?;
-    assert_request(&rt, &FLAGGED, &["flagged", "--svg", "--svg"], None)?;
-    assert_request(&rt, &FLAGGED, &["flagged", "--help"], None)
+    assert_request(&rt, &FLAGGED, both, Some((2, true)));
+    assert_request(&rt, &FLAGGED, &["flagged", "--svg", "--svg"], None);
+    assert_request(&rt, &FLAGGED, &["flagged", "--help"], None);
 }
 
 // Asserts the status that a run which stopped ends with, and what is said of it.

@@ -2,6 +2,7 @@ ghost use Rattle.std.specs.Prelude.{◌≡◌, ◌<◌, ◌≤◌, All, IfOk, ve
 
 use std::alloc::{AllocError, Global};
 use std::marker::Model;
+use std::process::Abort;
 use std::thread::Threads;
 use vm_sweep::{Task, run_round_with};
 
@@ -142,37 +143,35 @@ fn are_run<R: Threads + Sync>(
     Ok(right && all_back && each_once)
 }
 
-#[test]
-fn one_hammer(rt: HostRuntime) {
-    for errands in [0, 1, 64] {
+// Asserts it, for a list of numbers of errands.
+fn check_runs(rt: &(impl Abort + AllocGlobal + Threads + Sync), counts: &[u64], among: usize)
+    requires { (0 < among) × (among ≤ 64) }
+{
+    for count in counts {
+        let count = (*count).min(256);
         assert!(rt;
-            are_run(&rt, rt.alloc(), errands, 1).unwrap_or(true),
-            "{errands} errands"
+            are_run(rt, rt.alloc(), count, among).unwrap_or(true),
+            "{count} errands"
         );
     }
+}
+
+#[test]
+fn one_hammer(rt: HostRuntime) {
+    check_runs(&rt, &[0, 1, 64], 1);
 }
 
 #[test]
 fn two_hammers(rt: HostRuntime) {
-    for errands in [0, 1, 2, 64] {
-        assert!(rt;
-            are_run(&rt, rt.alloc(), errands, 2).unwrap_or(true),
-            "{errands} errands"
-        );
-    }
+    check_runs(&rt, &[0, 1, 2, 64], 2);
 }
 
 #[test]
 fn four_hammers(rt: HostRuntime) {
-    for errands in [0, 1, 3, 64, 256] {
-        assert!(rt;
-            are_run(&rt, rt.alloc(), errands, 4).unwrap_or(true),
-            "{errands} errands"
-        );
-    }
+    check_runs(&rt, &[0, 1, 3, 64, 256], 4);
 }
 
 #[test]
 fn many_hammers(rt: HostRuntime) {
-    assert!(rt; are_run(&rt, rt.alloc(), 256, 64).unwrap_or(true));
+    check_runs(&rt, &[256], 64);
 }

@@ -1,5 +1,6 @@
 // The plan of a host that promises more memory than it has, as in examples/overcommit.json: eight guests, three of which start later.
-use std::alloc::{AllocError, Global};
+use std::alloc::AllocError;
+use std::process::Abort;
 
 // A guest that touches so many pages once, and then the first ones again and again.
 struct Planned {
@@ -146,15 +147,19 @@ fn push_guest(text: &mut String, guest: &Planned, place: usize) -> Result<(), Al
     text.push_str("]}")
 }
 
-// The text of the plan.
-pub(super) fn plan(alloc: Global) -> Result<String, AllocError> {
-    let mut text = String::new(alloc);
+fn push_plan(text: &mut String) -> Result<(), AllocError> {
     text.push_str(
         "{\"version\":1,\"frames\":400,\"swap\":425,\"overhead\":1,\"quantum\":24,\"epochs\":36,\"guests\":[",
     )?;
     for (place, guest) in GUESTS.iter().enumerate() {
-        push_guest(&mut text, guest, place)?;
+        push_guest(text, guest, place)?;
     }
-    write!(text, "],\"commands\":[{COMMANDS}]}}")?;
-    Ok(text)
+    write!(text, "],\"commands\":[{COMMANDS}]}}")
+}
+
+// The text of the plan.
+pub(super) fn plan(rt: &(impl Abort + AllocGlobal)) -> String {
+    let mut text = String::new(rt.alloc());
+    push_plan(&mut text).expect(rt, "memory");
+    text
 }

@@ -1,10 +1,10 @@
 // Configurations with their reports, and readers and writers that fail.
+use super::check_eq;
 use std::alloc::{AllocError, Global};
 use std::io;
 use std::io::{Error, ErrorKind};
 use std::process::Abort;
-use std::thread::Threads;
-use vm_sim::{Gate, Host, Open, Ran, RunError, Sink, Source, run};
+use vm_sim::{Sink, Source};
 
 pub(super) const FIRST_READ: &str =
     "{\"version\":1,\"frames\":100,\"epochs\":1,\"guests\":[{\"name\":\"web\",\"size\":4,\"min\":4,\
@@ -20,68 +20,29 @@ pub(super) const LOW_AND_BACK: &str =
 {\"name\":\"a\",\"size\":100,\"min\":10,\"trace\":[\"i\",\"r 0 0 1\",\"r 1 0 1\"]},\
 {\"name\":\"b\",\"size\":5,\"min\":5,\"autostart\":false}],\"commands\":[{\"at\":1,\"line\":\"start b\"}]}";
 
-pub(super) const LOW_AND_BACK_REPORT: &str =
-    "epoch 0\n> start a\nok\nstate high free 90\ngrant a 86\n\
-epoch 1\n> start b\nrevoke a 1\nok\nstate low free 0\nrevoke a 7\npage a 1\nblock a\n\
-epoch 2\nstate hard free 7\na r 0 0 00\nepoch 3\nstate soft free 7\na r 1 0 00\nend\n\
-a target 88 held 88 swapped 0 balloon 12 active 65536 bad 0 done 3\n\
-b target 5 held 5 swapped 0 balloon 0 active 65536 bad 0 done 0\n\
-machine 100 held 93 free 7 overhead 0\n";
-
-pub(super) const SWAP_AND_STALL: &str =
-    "{\"version\":1,\"frames\":100,\"swap\":2,\"epochs\":2,\"guests\":[{\"name\":\"g\",\"size\":4,\"min\":2,\
-\"samples\":1,\"seed\":42,\"stream\":54,\"trace\":[\"w 0 0 aa\",\"w 1 0 bb\",\"w 2 0 cc\",\"r 0 0 1\"]}],\
-\"commands\":[{\"at\":0,\"line\":\"setmem g 8\"}]}";
-
-pub(super) const TWO_IN_ORDER: &str =
-    "{\"version\":1,\"frames\":100,\"quantum\":1,\"epochs\":2,\"guests\":[\
-{\"name\":\"a\",\"size\":2,\"min\":2,\"trace\":[\"w 0 0 0a\",\"r 0 0 1\"]},\
-{\"name\":\"b\",\"size\":1,\"min\":1,\"trace\":[\"r 0 0 2\"]}]}";
-
-pub(super) const FIVE_GUESTS: &str = "{\"version\":1,\"frames\":20,\"epochs\":1,\"guests\":[\
-{\"name\":\"g0\",\"size\":2,\"min\":2,\"trace\":[\"w 0 0 10\",\"r 0 0 1\"]},\
-{\"name\":\"g1\",\"size\":2,\"min\":2,\"trace\":[\"w 0 0 11\",\"r 0 0 1\"]},\
-{\"name\":\"g2\",\"size\":2,\"min\":2,\"trace\":[\"w 0 0 12\",\"r 0 0 1\"]},\
-{\"name\":\"g3\",\"size\":2,\"min\":2,\"trace\":[\"w 0 0 13\",\"r 0 0 1\"]},\
-{\"name\":\"g4\",\"size\":2,\"min\":2,\"trace\":[\"w 0 0 14\",\"r 0 0 1\"]}]}";
-
-pub(super) const FIVE_GUESTS_REPORT: &str =
-    "epoch 0\n> start g0\nok\n> start g1\nok\n> start g2\nok\n> start g3\nok\n\
-> start g4\nok\nstate high free 10\n\
-g0 r 0 0 10\ng1 r 0 0 11\ng2 r 0 0 12\ng3 r 0 0 13\ng4 r 0 0 14\nend\n\
-g0 target 2 held 2 swapped 0 balloon 0 active 65536 bad 0 done 2\n\
-g1 target 2 held 2 swapped 0 balloon 0 active 65536 bad 0 done 2\n\
-g2 target 2 held 2 swapped 0 balloon 0 active 65536 bad 0 done 2\n\
-g3 target 2 held 2 swapped 0 balloon 0 active 65536 bad 0 done 2\n\
-g4 target 2 held 2 swapped 0 balloon 0 active 65536 bad 0 done 2\n\
-machine 20 held 10 free 10 overhead 0\n";
-
-pub(super) const OVERHEAD_ADMITTED: &str =
-    "{\"version\":1,\"frames\":100,\"overhead\":1,\"epochs\":1,\"guests\":[\
-{\"name\":\"a\",\"size\":60,\"min\":60},{\"name\":\"b\",\"size\":38,\"min\":38}]}";
-
-pub(super) const OVERHEAD_ADMITTED_REPORT: &str =
-    "epoch 0\n> start a\nok\n> start b\nok\nstate low free 0\nend\n\
-a target 60 held 60 swapped 0 balloon 0 active 65536 bad 0 done 0\n\
-b target 38 held 38 swapped 0 balloon 0 active 65536 bad 0 done 0\n\
-machine 100 held 98 free 0 overhead 2\n";
-
 pub(super) const STEP_THAT_CANNOT_BE_READ: &str =
     "{\"version\":1,\"frames\":100,\"epochs\":1,\"guests\":[{\"name\":\"web\",\"size\":4,\"min\":4,\
 \"trace\":[\"i\",\"w 0 0 f\"]}]}";
 
 // Two guests with 2000 steps each in one epoch, enough for a thread each: each writes 0 to 1998 to its first byte, without what is
 // over 255, and reads it.
-pub(super) fn long_epoch(alloc: Global) -> Result<String, AllocError> {
-    let mut steps = String::new(alloc);
+pub(super) fn push_long_epoch(config: &mut String) -> Result<(), AllocError> {
+    config.push_str("{\"version\":1,\"frames\":100,\"quantum\":2000,\"epochs\":1,\"guests\":[")?;
+    push_long_guest(config, "a")?;
+    config.push_str(",")?;
+    push_long_guest(config, "b")?;
+    config.push_str("]}")
+}
+
+fn push_long_guest(config: &mut String, name: &str) -> Result<(), AllocError> {
+    write!(
+        config,
+        "{{\"name\":\"{name}\",\"size\":4,\"min\":4,\"period\":1000000,\"trace\":["
+    )?;
     for number in 0..1999u32 {
-        write!(steps, "\"w 0 0 {:02x}\",", number % 256)?;
+        write!(config, "\"w 0 0 {:02x}\",", number % 256)?;
     }
-    let rest = "\"size\":4,\"min\":4,\"period\":1000000,\"trace\":[";
-    format!(in alloc;
-        "{{\"version\":1,\"frames\":100,\"quantum\":2000,\"epochs\":1,\"guests\":[\
-{{\"name\":\"a\",{rest}{steps}\"r 0 0 1\"]}},{{\"name\":\"b\",{rest}{steps}\"r 0 0 1\"]}}]}}"
-    )
+    config.push_str("\"r 0 0 1\"]}")
 }
 
 pub(super) const LONG_EPOCH_REPORT: &str =
@@ -90,36 +51,12 @@ a target 4 held 4 swapped 0 balloon 0 active 65536 bad 0 done 2000\n\
 b target 4 held 4 swapped 0 balloon 0 active 65536 bad 0 done 2000\n\
 machine 100 held 8 free 92 overhead 0\n";
 
-// A gate that does nothing, and does not say that it never waits: so an epoch on two workers or more is a round on threads.
-pub(super) struct Silent;
-
-impl Gate for Silent {
-    ghost use Rattle.std.specs.Prelude.{⊤};
-
-    type Outside = ();
-
-    type Inside = ();
-
-    ghost passed = { λ _ _. ⊤ };
-
-    ghost inside = { λ _ _ _. ⊤ };
-
-    fn arrive(&self) {}
-
-    fn enter(&self, _outside: (), _number: u32) {}
-
-    fn leave(&self, _ran: Ran<()>, _number: u32)
-        ensures { ⊤ }
-    {}
-}
-
-// A reader that gives these bytes, then so many spaces, and then fails or ends.
+// A reader that gives these bytes, and then ends or fails.
 #[derive(Drop)]
 pub(super) struct Given<'a> {
     pub(super) bytes: &'a [u8],
-    pub(super) spaces: usize,
-    pub(super) ends: bool,
-    pub(super) has_failed: bool,
+    ends: bool,
+    has_failed: bool,
 }
 
 impl Source for Given<'_> {
@@ -131,19 +68,13 @@ impl Source for Given<'_> {
 
     fn read(&mut self, buf: &mut [u8]) -> io::Result<usize> {
         let count = buf.len().min(self.bytes.len());
-        if count > 0 {
-            buf[..count].copy_from_slice(&self.bytes[..count]);
-            self.bytes = &self.bytes[count..];
-            return Ok(count);
-        }
-        let spaces = buf.len().min(self.spaces);
-        if spaces == 0 && !self.ends {
+        if count == 0 && !self.ends {
             self.has_failed = true;
             return Err(Error::from(ErrorKind::BrokenPipe));
         }
-        buf[..spaces].fill(b' ');
-        self.spaces -= spaces;
-        Ok(spaces)
+        buf[..count].copy_from_slice(&self.bytes[..count]);
+        self.bytes = &self.bytes[count..];
+        Ok(count)
     }
 
     fn failed(&self) -> bool {
@@ -155,7 +86,6 @@ impl Source for Given<'_> {
 pub(super) fn text(bytes: &[u8]) -> Given<'_> {
     Given {
         bytes,
-        spaces: 0,
         ends: true,
         has_failed: false,
     }
@@ -165,19 +95,17 @@ pub(super) fn text(bytes: &[u8]) -> Given<'_> {
 pub(super) fn broken() -> Given<'static> {
     Given {
         bytes: b"",
-        spaces: 0,
         ends: false,
         has_failed: false,
     }
 }
 
-// A writer that takes at most so many bytes at a time, and nothing more once it is full.
+// A writer that takes three bytes at a time, and nothing more once it is full.
 #[derive(Drop)]
 pub(super) struct Narrow {
     pub(super) held: Vec<u8>,
-    pub(super) room: usize,
-    pub(super) width: usize,
-    pub(super) has_failed: bool,
+    room: usize,
+    has_failed: bool,
 }
 
 impl Sink for Narrow {
@@ -188,7 +116,7 @@ impl Sink for Narrow {
     ghost has_failed = { λ s. s.has_failed };
 
     fn write(&mut self, buf: &[u8]) -> io::Result<usize> {
-        let count = buf.len().min(self.room).min(self.width);
+        let count = buf.len().min(self.room).min(3);
         if self.held.extend_from_slice(&buf[..count]).is_err() {
             self.has_failed = true;
             return Err(Error::from(ErrorKind::OutOfMemory));
@@ -208,67 +136,31 @@ impl Sink for Narrow {
 // More than any of these programs writes here.
 pub(super) const AMPLE: usize = 1_000_000;
 
-// With room for so many bytes, three at a time.
+// With room for so many bytes.
 pub(super) fn with_room(alloc: Global, room: usize) -> Narrow {
     Narrow {
         held: Vec::new(alloc),
         room,
-        width: 3,
         has_failed: false,
     }
 }
 
-// The error of a run, where there is one. A host is closed.
-pub(super) fn fault_of(outcome: Result<Host, RunError>) -> Option<RunError> {
-    match outcome {
-        Ok(host) => {
-            host.close();
-            None
-        }
-        Err(error) => Some(error),
-    }
-}
-
-// Runs a configuration on one worker, and gives its error, if there is one.
-pub(super) fn fault<R: Source, W: Sink>(
-    rt: &(impl AllocGlobal + Threads + Sync),
-    reader: &mut R,
-    writer: &mut W,
-) -> Option<RunError> {
-    fault_of(run(rt, rt.alloc(), &Open, 1, reader, writer))
-}
-
-// Asserts how a run ended: with this error, or with none.
-pub(super) fn assert_fault(rt: &impl Abort, fault: Option<RunError>, wanted: Option<RunError>) {
-    assert_eq!(rt; fault, wanted);
-}
-
-// The same for the case of a number.
-pub(super) fn assert_fault_in(
-    rt: &impl Abort,
-    case: usize,
-    fault: Option<RunError>,
-    wanted: Option<RunError>,
-) {
-    assert_eq!(rt; fault, wanted, "{case}");
-}
-
-// Asserts that these are the bytes that were read or written.
+// Asserts that these are the bytes that were written.
 pub(super) fn assert_bytes(rt: &impl Abort, bytes: &[u8], wanted: &[u8]) {
-    assert_eq!(rt; bytes, wanted);
+    check_eq(rt, bytes, wanted);
 }
 
 // Asserts how many bytes there are.
 pub(super) fn assert_length(rt: &impl Abort, bytes: &[u8], wanted: usize) {
-    assert_eq!(rt; bytes.len(), wanted);
+    check_eq(rt, bytes.len(), wanted);
 }
 
-// Asserts whether a reader has failed.
-pub(super) fn assert_reader_failed(rt: &impl Abort, reader: &impl Source, wanted: bool) {
-    assert_eq!(rt; reader.failed(), wanted);
+// Asserts that a piece stands in a drawing.
+pub(super) fn assert_shows(rt: &impl Abort, svg: &String, piece: &str) {
+    assert!(rt; svg.as_str().contains(piece), "{piece}");
 }
 
-// Asserts whether a writer has failed.
-pub(super) fn assert_writer_failed(rt: &impl Abort, writer: &impl Sink, wanted: bool) {
-    assert_eq!(rt; writer.failed(), wanted);
+// Asserts how often a piece stands in a drawing.
+pub(super) fn assert_count(rt: &impl Abort, svg: &String, piece: &str, wanted: usize) {
+    assert_eq!(rt; svg.as_str().matches(piece).count(), wanted, "{piece}");
 }

@@ -1,4 +1,5 @@
 // A system whose words are known, and which keeps what is said on standard error.
+use super::check_eq;
 use std::alloc::Global;
 use std::cell::RefCell;
 use std::env::FillError;
@@ -75,15 +76,16 @@ impl Eprint for FakeSystem<'_> {
 
 // Asserts what was said on standard error.
 pub(super) fn assert_said(rt: &impl Abort, system: FakeSystem, wanted: &str) {
-    assert_eq!(rt; system.said.into_inner().as_str(), wanted);
+    let said = system.said.into_inner();
+    check_eq(rt, said.as_str(), wanted);
 }
 
 // Asserts whether anything was said.
 pub(super) fn assert_has_spoken(rt: &impl Abort, system: FakeSystem, wanted: bool) {
-    assert_eq!(rt; !system.said.into_inner().is_empty(), wanted);
+    check_eq(rt, !system.said.into_inner().is_empty(), wanted);
 }
 
 // Asserts the status that a program ends with.
 pub(super) fn assert_status(rt: &impl Abort, status: u8, wanted: u8) {
-    assert_eq!(rt; status, wanted);
+    check_eq(rt, status, wanted);
 }

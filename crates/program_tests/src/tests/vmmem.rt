@@ -1,11 +1,10 @@
 // `vmmem`: exit statuses, what is said on standard error, and what is written.
 use super::setup::{
     AMPLE, FIRST_READ, FIRST_READ_REPORT, LONG_EPOCH_REPORT, STEP_THAT_CANNOT_BE_READ,
-    assert_bytes, assert_length, broken, long_epoch, text, with_room,
+    assert_bytes, assert_length, broken, push_long_epoch, text, with_room,
 };
 use super::system::{assert_has_spoken, assert_said, assert_status, with_words};
 use std::process::Abort;
-use std::test::Fail;
 use std::thread::Threads;
 use vm_program::status;
 
@@ -92,11 +91,11 @@ fn the_report_is_written(rt: HostRuntime) {
 
 // Epochs of so many steps are shared by threads.
 #[test]
-fn a_long_epoch_is_told(rt: HostRuntime) -> Result<(), Fail> {
-    let config = long_epoch(rt.alloc())?;
+fn a_long_epoch_is_told(rt: HostRuntime) {
+    let mut config = String::new(rt.alloc());
+    push_long_epoch(&mut config).expect(&rt, "memory");
     for workers in ["1", "2", "64"] {
         let words = ["vmmem", "--workers", workers];
         assert_end(&rt, &words, config.as_str(), 0, "", LONG_EPOCH_REPORT);
     }
-    Ok(())
 }

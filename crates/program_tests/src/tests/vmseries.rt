@@ -4,7 +4,6 @@ use super::setup::{
 };
 use super::system::{assert_has_spoken, assert_said, assert_status, with_words};
 use std::process::Abort;
-use std::test::Fail;
 use std::thread::Threads;
 use vm_series::{collect_series, csv_text, svg_text};
 use vm_series_program::status;
@@ -123,11 +122,11 @@ fn assert_other(rt: &impl Abort, text: &[u8], other: &[u8]) {
 }
 
 #[test]
-fn a_drawing_is_written(rt: HostRuntime) -> Result<(), Fail> {
+fn a_drawing_is_written(rt: HostRuntime) {
     let alloc = rt.alloc();
     let series = collect_series(&rt, alloc, &Open, 1, NO_GUESTS.as_bytes()).expect(&rt, "a run");
-    let drawing = svg_text(alloc, &series)?;
-    let listed = csv_text(alloc, &series)?;
+    let drawing = svg_text(alloc, &series).expect(&rt, "memory");
+    let listed = csv_text(alloc, &series).expect(&rt, "memory");
     assert_other(&rt, drawing.as_slice(), listed.as_slice());
     for words in [
         &["vmseries", "--svg"] as &[&str],
@@ -135,5 +134,4 @@ fn a_drawing_is_written(rt: HostRuntime) -> Result<(), Fail> {
     ] {
         assert_end(&rt, words, NO_GUESTS, 0, "", drawing.as_slice());
     }
-    Ok(())
 }

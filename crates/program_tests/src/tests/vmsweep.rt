@@ -4,9 +4,8 @@ use super::setup::{
 };
 use super::sweeps::{ADMISSION, HEADER};
 use super::system::{assert_said, assert_status, with_words};
-use std::alloc::{AllocError, Global};
+use std::alloc::AllocError;
 use std::process::Abort;
-use std::test::Fail;
 use std::thread::Threads;
 use vm_sweep_program::status;
 
@@ -47,13 +46,13 @@ pub(super) fn assert_end(
 }
 
 // The header, and these records.
-fn table(alloc: Global, records: &str) -> Result<String, AllocError> {
-    format!(in alloc; "{HEADER}{records}")
+fn table(rt: &(impl Abort + AllocGlobal), records: &str) -> String {
+    format!(in rt.alloc(); "{HEADER}{records}").expect(rt, "memory")
 }
 
 #[test]
 fn a_table_is_the_same_for_all_workers(rt: HostRuntime) {
-    let table = table(rt.alloc(), ADMISSION_RECORDS).expect(&rt, "there is memory");
+    let table = table(&rt, ADMISSION_RECORDS);
     for workers in ["1", "2", "5", "64"] {
         let words = [
             "vmsweep",
@@ -71,7 +70,7 @@ fn a_table_is_the_same_for_all_workers(rt: HostRuntime) {
 #[test]
 fn a_configuration_keeps_its_own_values(rt: HostRuntime) {
     let record = "100,90,75,1,1,1,1,1,0,0,0,8,1,0,86,1,0,3,0,0,0,12,no\r\n";
-    let table = table(rt.alloc(), record).expect(&rt, "there is memory");
+    let table = table(&rt, record);
     assert_end(
         &rt,
         &["vmsweep"],
@@ -82,20 +81,15 @@ fn a_configuration_keeps_its_own_values(rt: HostRuntime) {
     );
 }
 
-// A machine of so many frames, which runs no epoch.
-fn push_record(records: &mut String, frames: u32) -> Result<(), AllocError> {
-    write!(
-        records,
-        "{frames},0,75,16,0,0,0,0,{frames},0,0,0,0,0,0,0,0,0,0,0,0,0,yes\r\n"
-    )
-}
-
-fn thousand_records(alloc: Global) -> Result<String, AllocError> {
-    let mut records = String::new(alloc);
-    for frames in 1..=1000 {
-        push_record(&mut records, frames)?;
+// Machines of 1 to 1000 frames, which run no epoch.
+fn push_thousand(records: &mut String) -> Result<(), AllocError> {
+    for frames in 1..=1000u32 {
+        write!(
+            records,
+            "{frames},0,75,16,0,0,0,0,{frames},0,0,0,0,0,0,0,0,0,0,0,0,0,yes\r\n"
+        )?;
     }
-    Ok(records)
+    Ok(())
 }
 
 const NO_EPOCHS: &str = "{\"version\":1,\"frames\":100,\"epochs\":0,\"guests\":[\
@@ -103,8 +97,9 @@ const NO_EPOCHS: &str = "{\"version\":1,\"frames\":100,\"epochs\":0,\"guests\":[
 
 #[test]
 fn a_thousand_runs_are_told_in_order(rt: HostRuntime) {
-    let records = thousand_records(rt.alloc()).expect(&rt, "there is memory");
-    let table = table(rt.alloc(), records.as_str()).expect(&rt, "there is memory");
+    let mut records = String::new(rt.alloc());
+    push_thousand(&mut records).expect(&rt, "memory");
+    let table = table(&rt, records.as_str());
     for workers in ["1", "2", "5", "64"] {
         let words = ["vmsweep", "--frames", "1..1000", "--workers", workers];
         assert_end(&rt, &words, NO_EPOCHS, 0, "", table.as_str().as_bytes());
@@ -113,7 +108,7 @@ fn a_thousand_runs_are_told_in_order(rt: HostRuntime) {
 
 #[test]
 fn progress_is_told_after_each_round(rt: HostRuntime) {
-    let table = table(rt.alloc(), ADMISSION_RECORDS).expect(&rt, "there is memory");
+    let table = table(&rt, ADMISSION_RECORDS);
     let words = [
         "vmsweep",
         "--frames",
@@ -175,7 +170,7 @@ pub(super) fn front(bytes: &[u8], length: usize) -> &[u8] {
 // A writer that has room for the header and two records of 49 bytes has a front of the table.
 #[test]
 fn a_writer_that_fails_has_a_front_of_the_table(rt: HostRuntime) {
-    let table = table(rt.alloc(), ADMISSION_RECORDS).expect(&rt, "there is memory");
+    let table = table(&rt, ADMISSION_RECORDS);
     let words = [
         "vmsweep",
         "--frames",

@@ -1,12 +1,13 @@
 // What `vmsweep` writes beside a table of runs: a table by guests, and a drawing. The figures are those of an independent program, and
 // the places of the curves are worked out from them by hand.
-use super::charts::{assert_count, assert_shows};
 use super::plan::plan;
-use super::setup::{AMPLE, LOW_AND_BACK, Narrow, assert_bytes, assert_length, text, with_room};
+use super::setup::{
+    AMPLE, LOW_AND_BACK, Narrow, assert_bytes, assert_count, assert_length, assert_shows, text,
+    with_room,
+};
 use super::sweeps::{DRIVERS, GUESTS_HEADER, RESTART};
 use super::system::{assert_has_spoken, assert_said, assert_status, with_words};
 use super::vmsweep::{assert_end, ended, front};
-use std::alloc::{AllocError, Global};
 use std::process::Abort;
 use std::thread::Threads;
 use vm_sweep_program::status;
@@ -57,20 +58,20 @@ const PLAN_RECORDS: &str = "300,425,75,1,db,36,55,9,0,60,0,0,264,0,7,65,65,7,48\
 400,425,75,16,batch2,12,0,0,32,23,0,0,216,0,13,34,34,0,26\r\n";
 
 // The header, and these records.
-fn guest_table(alloc: Global, records: &str) -> Result<String, AllocError> {
-    format!(in alloc; "{GUESTS_HEADER}{records}")
+fn guest_table(rt: &(impl Abort + AllocGlobal), records: &str) -> String {
+    format!(in rt.alloc(); "{GUESTS_HEADER}{records}").expect(rt, "memory")
 }
 
 #[test]
 fn each_guest_of_a_run_is_told(rt: HostRuntime) {
-    let table = guest_table(rt.alloc(), DRIVERS_RECORDS).expect(&rt, "there is memory");
+    let table = guest_table(&rt, DRIVERS_RECORDS);
     let words = ["vmsweep", "--guests"];
     assert_end(&rt, &words, DRIVERS, 0, "", table.as_str().as_bytes());
 }
 
 #[test]
 fn a_guest_is_told_once_for_each_run(rt: HostRuntime) {
-    let table = guest_table(rt.alloc(), RESTART_RECORDS).expect(&rt, "there is memory");
+    let table = guest_table(&rt, RESTART_RECORDS);
     for workers in ["1", "2", "64"] {
         let words = [
             "vmsweep",
@@ -86,8 +87,8 @@ fn a_guest_is_told_once_for_each_run(rt: HostRuntime) {
 
 #[test]
 fn guests_are_told_run_by_run(rt: HostRuntime) {
-    let plan = plan(rt.alloc()).expect(&rt, "there is memory");
-    let table = guest_table(rt.alloc(), PLAN_RECORDS).expect(&rt, "there is memory");
+    let plan = plan(&rt);
+    let table = guest_table(&rt, PLAN_RECORDS);
     for workers in ["1", "4"] {
         let words = [
             "vmsweep",
@@ -113,7 +114,7 @@ fn without_guests_there_is_the_header_alone(rt: HostRuntime) {
 // A writer that has room for the header and some of the three records of 41 bytes has a front of the table.
 #[test]
 fn a_writer_that_fails_has_a_front_of_the_guests(rt: HostRuntime) {
-    let table = guest_table(rt.alloc(), RESTART_RECORDS).expect(&rt, "there is memory");
+    let table = guest_table(&rt, RESTART_RECORDS);
     let words = ["vmsweep", "--guests", "--page-rate", "1..3"];
     for room in [0, GUESTS_HEADER.len(), GUESTS_HEADER.len() + 50] {
         let mut writer: Narrow = with_room(rt.alloc(), room);
@@ -144,7 +145,7 @@ fn drawn(
 // 0 and 0 guests waited; 293, 270, 165 and 111 with 75, and 308, 198, 161 and 112 with 99.5. The scales end at 400 and 60.
 #[test]
 fn a_sweep_is_drawn_over_its_machines(rt: HostRuntime) {
-    let plan = plan(rt.alloc()).expect(&rt, "there is memory");
+    let plan = plan(&rt);
     let words = [
         "vmsweep",
         "--svg",
@@ -181,7 +182,7 @@ fn a_sweep_is_drawn_over_its_machines(rt: HostRuntime) {
 
 #[test]
 fn a_sweep_has_scales_marks_and_legends(rt: HostRuntime) {
-    let plan = plan(rt.alloc()).expect(&rt, "there is memory");
+    let plan = plan(&rt);
     let words = [
         "vmsweep",
         "--frames=300..450/50",

@@ -1,7 +1,6 @@
 // Commands by their epochs: those at or past the last epoch are read, and never run.
-use super::setup::{assert_bytes, assert_fault, fault, text, with_room};
-use std::process::Abort;
-use std::thread::Threads;
+use super::setup::assert_report;
+use vm_sim::Open;
 
 // Commands that never run stand before, between and behind those that do.
 const TWO_EPOCHS: &str =
@@ -30,17 +29,9 @@ const NO_EPOCHS: &str =
 
 const NO_EPOCHS_REPORT: &str = "end\nmachine 100 held 0 free 100 overhead 0\n";
 
-// Asserts what is written for a configuration.
-fn assert_report(rt: &(impl Abort + AllocGlobal + Threads + Sync), config: &str, report: &str) {
-    let mut writer = with_room(rt.alloc(), 10_000);
-    let outcome = fault(rt, &mut text(config.as_bytes()), &mut writer);
-    assert_fault(rt, outcome, None);
-    assert_bytes(rt, writer.held.as_slice(), report.as_bytes());
-}
-
 #[test]
 fn commands_past_the_end_never_run(rt: HostRuntime) {
-    assert_report(&rt, TWO_EPOCHS, TWO_EPOCHS_REPORT);
-    assert_report(&rt, ONE_EPOCH, ONE_EPOCH_REPORT);
-    assert_report(&rt, NO_EPOCHS, NO_EPOCHS_REPORT);
+    assert_report(&rt, &Open, 1, TWO_EPOCHS, TWO_EPOCHS_REPORT);
+    assert_report(&rt, &Open, 1, ONE_EPOCH, ONE_EPOCH_REPORT);
+    assert_report(&rt, &Open, 1, NO_EPOCHS, NO_EPOCHS_REPORT);
 }

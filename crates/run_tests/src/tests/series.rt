@@ -1,7 +1,8 @@
 // Rows and comma-separated values of whole runs, as the rules of a run give them.
-use super::setup::{LOW_AND_BACK, Silent, assert_bytes, long_epoch};
+use super::check_eq;
+use super::setup::{LOW_AND_BACK, Silent, assert_bytes, push_long_epoch};
+use std::alloc::AllocError;
 use std::process::Abort;
-use std::test::Fail;
 use std::thread::Threads;
 use vm_host::{Gate, Open, State};
 use vm_series::{EpochRow, Series, collect_series, csv_text};
@@ -30,25 +31,24 @@ fn assert_records(
     workers: u32,
     config: &str,
     records: &str,
-) -> Result<(), Fail> {
-    let alloc = rt.alloc();
-    let series = collect_series(rt, alloc, gate, workers, config.as_bytes()).expect(rt, "a run");
-    let text = csv_text(alloc, &series)?;
-    let wanted = format!(in alloc; "{HEADER}{records}")?;
+) {
+    let series = collect_series(rt, rt.alloc(), gate, workers, config.as_bytes()).expect(
+        rt, "a run",
+    );
+    let text = csv_text(rt.alloc(), &series).expect(rt, "memory");
+    let wanted = format!(in rt.alloc(); "{HEADER}{records}").expect(rt, "memory");
     assert_bytes(rt, text.as_slice(), wanted.as_bytes());
-    Ok(())
 }
 
 // Through a gate that never waits epochs of so few steps stay on one thread, and through the other one they are rounds on threads.
 #[test]
-fn rows_become_records(rt: HostRuntime) -> Result<(), Fail> {
+fn rows_become_records(rt: HostRuntime) {
     for workers in [1, 2] {
-        assert_records(&rt, &Open, workers, LOW_AND_BACK, LOW_AND_BACK_RECORDS)?;
-        assert_records(&rt, &Silent, workers, LOW_AND_BACK, LOW_AND_BACK_RECORDS)?;
-        assert_records(&rt, &Open, workers, STALLED, STALLED_RECORDS)?;
-        assert_records(&rt, &Silent, workers, STALLED, STALLED_RECORDS)?;
+        assert_records(&rt, &Open, workers, LOW_AND_BACK, LOW_AND_BACK_RECORDS);
+        assert_records(&rt, &Silent, workers, LOW_AND_BACK, LOW_AND_BACK_RECORDS);
+        assert_records(&rt, &Open, workers, STALLED, STALLED_RECORDS);
+        assert_records(&rt, &Silent, workers, STALLED, STALLED_RECORDS);
     }
-    Ok(())
 }
 
 const LONG_EPOCH_RECORDS: &str =
@@ -56,12 +56,12 @@ const LONG_EPOCH_RECORDS: &str =
 
 // Epochs of so many steps are shared by threads.
 #[test]
-fn a_long_epoch_becomes_records(rt: HostRuntime) -> Result<(), Fail> {
-    let config = long_epoch(rt.alloc())?;
+fn a_long_epoch_becomes_records(rt: HostRuntime) {
+    let mut config = String::new(rt.alloc());
+    push_long_epoch(&mut config).expect(&rt, "memory");
     for workers in [1, 2, 64] {
-        assert_records(&rt, &Open, workers, config.as_str(), LONG_EPOCH_RECORDS)?;
+        assert_records(&rt, &Open, workers, config.as_str(), LONG_EPOCH_RECORDS);
     }
-    Ok(())
 }
 
 // Two idle guests of four pages, whose names are as long and as short as a name may be.
@@ -71,20 +71,23 @@ const NAMES: &str =
 
 // An epoch of one digit, one of two, and a number of six digits.
 #[test]
-fn records_are_as_long_as_their_fields(rt: HostRuntime) -> Result<(), Fail> {
-    let alloc = rt.alloc();
-    let mut records = String::new(alloc);
+fn records_are_as_long_as_their_fields(rt: HostRuntime) {
+    let mut records = String::new(rt.alloc());
+    push_name_records(&mut records).expect(&rt, "memory");
+    assert_records(&rt, &Open, 1, NAMES, records.as_str());
+    assert_records(&rt, &Open, 2, LARGE, LARGE_RECORDS);
+}
+
+fn push_name_records(records: &mut String) -> Result<(), AllocError> {
+    let fields = "4,4,0,0,0,65536,0,0,";
     for epoch in 0..11u32 {
-        let fields = "4,4,0,0,0,65536,0,0,";
-        let long = format!(in alloc;
+        write!(
+            records,
             "{epoch},high,92,A_name.of-32-letters-and-digits.,{fields}\r\n"
         )?;
-        let short = format!(in alloc; "{epoch},high,92,9,{fields}\r\n")?;
-        records.push_str(long.as_str())?;
-        records.push_str(short.as_str())?;
+        write!(records, "{epoch},high,92,9,{fields}\r\n")?;
     }
-    assert_records(&rt, &Open, 1, NAMES, records.as_str())?;
-    assert_records(&rt, &Open, 2, LARGE, LARGE_RECORDS)
+    Ok(())
 }
 
 // A guest of 200000 pages on a machine of 262144 frames, with an overhead of 100.
@@ -97,18 +100,18 @@ const LARGE_RECORDS: &str = "0,high,62044,g,200000,200000,0,0,0,65536,0,0,\r\n";
 // Asserts frames, names and rows.
 fn assert_sizes(rt: &impl Abort, series: &Series, wanted: (u32, usize, usize)) {
     let sizes = (series.frames(), series.names().len(), series.rows().len());
-    assert_eq!(rt; sizes, wanted);
+    check_eq(rt, sizes, wanted);
 }
 
 // Asserts epoch, state and free frames.
 fn assert_host(rt: &impl Abort, row: &EpochRow, wanted: (u32, State, u32)) {
-    assert_eq!(rt; (row.epoch(), row.state(), row.free()), wanted);
+    check_eq(rt, (row.epoch(), row.state(), row.free()), wanted);
 }
 
 // Asserts what each guest held: a domain without a guest has none.
 fn assert_held(rt: &impl Abort, row: &EpochRow, wanted: [Option<u32>; 3]) {
     let held = [0, 1, 2].map(|position| row.view(position).map(|view| view.held));
-    assert_eq!(rt; held, wanted);
+    check_eq(rt, held, wanted);
 }
 
 #[test]
@@ -124,12 +127,12 @@ fn a_series_can_be_read(rt: HostRuntime) {
 
 // Asserts that there are guests, and how many domains are shown.
 fn assert_shows_guests(rt: &impl Abort, row: &EpochRow, domains: usize) {
-    assert_eq!(rt; (row.has_guests(), row.views().len()), (true, domains));
+    check_eq(rt, (row.has_guests(), row.views().len()), (true, domains));
 }
 
 // Asserts why a run stopped.
 fn assert_cause(rt: &impl Abort, outcome: Result<Series, RunError>, wanted: RunError) {
-    assert_eq!(rt; outcome.err(), Some(wanted));
+    check_eq(rt, outcome.err(), Some(wanted));
 }
 
 #[test]

@@ -1,14 +1,14 @@
 // Inputs and outputs that end early, or never.
+use super::check_eq;
 use super::setup::{
     FIRST_READ, FIRST_READ_REPORT, Given, LOW_AND_BACK, LOW_AND_BACK_REPORT, Narrow,
     SWAP_AND_STALL, assert_bytes, assert_fault, assert_fault_in, assert_length,
     assert_reader_failed, assert_writer_failed, fault, fault_of, text, with_room,
 };
-use std::alloc::{AllocError, Global};
+use std::alloc::Global;
 use std::io;
 use std::io::{Error, ErrorKind, Read, Write};
 use std::process::Abort;
-use std::test::Fail;
 use vm_sim::{ConfigError, Open, RunError, Watched, read_text, run};
 
 #[test]
@@ -182,20 +182,13 @@ fn interrupted_calls_are_tried_again(rt: HostRuntime) {
 }
 
 // Asserts how an error reads.
-fn assert_words(
-    rt: &impl Abort,
-    alloc: Global,
-    error: RunError,
-    wanted: &str,
-) -> Result<(), AllocError> {
-    let words = format!(in alloc; "{error}")?;
-    assert_eq!(rt; words.as_str(), wanted);
-    Ok(())
+fn assert_words(rt: &impl Abort, alloc: Global, error: RunError, wanted: &str) {
+    let words = error.to_string(alloc).expect(rt, "memory");
+    check_eq(rt, words.as_str(), wanted);
 }
 
 #[test]
-fn errors_have_texts(rt: HostRuntime) -> Result<(), Fail> {
-    let alloc = rt.alloc();
+fn errors_have_texts(rt: HostRuntime) {
     let errors = [
         (
             RunError::Config(ConfigError::Missing),
@@ -207,7 +200,6 @@ fn errors_have_texts(rt: HostRuntime) -> Result<(), Fail> {
         (RunError::Workers, "the number of workers is not 1 to 64"),
     ];
     for (error, wanted) in errors {
-        assert_words(&rt, alloc, error, wanted)?;
+        assert_words(&rt, rt.alloc(), error, wanted);
     }
-    Ok(())
 }

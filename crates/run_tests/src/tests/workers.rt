@@ -1,29 +1,13 @@
 // Any number of workers.
 use super::setup::{
     FIRST_READ, FIRST_READ_REPORT, FIVE_GUESTS, FIVE_GUESTS_REPORT, LOW_AND_BACK,
-    LOW_AND_BACK_REPORT, OVERHEAD_ADMITTED, OVERHEAD_ADMITTED_REPORT, Silent, assert_bytes,
-    assert_fault, assert_fault_in, assert_length, assert_reader_failed, fault_of, text, with_room,
+    LOW_AND_BACK_REPORT, OVERHEAD_ADMITTED, OVERHEAD_ADMITTED_REPORT, Silent, assert_fault,
+    assert_length, assert_reader_failed, assert_report, fault_of, text, with_room,
 };
 use std::process::Abort;
 use std::sync::atomic::{AtomicU64, Ordering};
 use std::thread;
-use std::thread::Threads;
 use vm_sim::{Gate, Open, Ran, RunError, run};
-
-// Asserts what so many workers write for a configuration.
-fn assert_report(
-    rt: &(impl Abort + AllocGlobal + Threads + Sync),
-    gate: &(impl Gate + Sync),
-    workers: u32,
-    input: &str,
-    report: &str,
-) {
-    let mut writer = with_room(rt.alloc(), 10_000);
-    let mut reader = text(input.as_bytes());
-    let outcome = run(rt, rt.alloc(), gate, workers, &mut reader, &mut writer);
-    assert_fault_in(rt, workers as usize, fault_of(outcome), None);
-    assert_bytes(rt, writer.held.as_slice(), report.as_bytes());
-}
 
 // Through a gate that never waits epochs of so few steps stay on one thread, and through the other one they are rounds on threads.
 #[test]
@@ -111,20 +95,6 @@ fn assert_met(rt: &impl Abort, gate: &Meeting) {
 #[test]
 fn two_tickets_at_once(rt: HostRuntime) {
     let gate = nobody_met();
-    let mut writer = with_room(rt.alloc(), 10_000);
-    let outcome = run(
-        &rt,
-        rt.alloc(),
-        &gate,
-        2,
-        &mut text(OVERHEAD_ADMITTED.as_bytes()),
-        &mut writer,
-    );
-    assert_fault(&rt, fault_of(outcome), None);
-    assert_bytes(
-        &rt,
-        writer.held.as_slice(),
-        OVERHEAD_ADMITTED_REPORT.as_bytes(),
-    );
+    assert_report(&rt, &gate, 2, OVERHEAD_ADMITTED, OVERHEAD_ADMITTED_REPORT);
     assert_met(&rt, &gate);
 }

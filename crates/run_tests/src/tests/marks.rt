@@ -1,10 +1,7 @@
 // The marks and the scales of charts, beside those that come of all samples of each curve.
-ghost use Rattle.std.specs.Prelude.{◌<◌, length};
-
 use super::charts::{assert_count, assert_shows};
-use std::alloc::{AllocError, Global};
+use std::alloc::AllocError;
 use std::process::Abort;
-use std::test::Fail;
 use std::thread::Threads;
 use vm_host::{GuestView, Open};
 use vm_series::{EpochRow, Series, collect_series, svg_text};
@@ -47,46 +44,35 @@ fn sample(row: &EpochRow, measure: Measure) -> Option<u64> {
     }
 }
 
-// A value for each epoch, or none where the guest that is asked for doesn't run.
-fn samples(
-    alloc: Global,
-    rows: &[EpochRow],
-    measure: Measure,
-) -> Result<Vec<Option<u64>>, AllocError> {
-    let mut values = Vec::new(alloc);
-    for row in rows {
-        values.push(sample(row, measure))?;
-    }
-    Ok(values)
-}
-
-fn greatest_of(alloc: Global, rows: &[EpochRow], measure: Measure) -> Result<u64, AllocError> {
-    let values = samples(alloc, rows, measure)?;
+// The greatest value in an epoch.
+fn greatest_of(rows: &[EpochRow], measure: Measure) -> u64 {
     let mut most: u64 = 0;
-    for value in values.as_slice() {
-        most = most.max(value.unwrap_or(0));
+    for row in rows {
+        most = most.max(sample(row, measure).unwrap_or(0));
     }
-    Ok(most)
+    most
 }
 
 // The greatest target of the guests before a position.
-fn greatest_target(alloc: Global, rows: &[EpochRow], positions: usize) -> Result<u64, AllocError> {
+fn greatest_target(rows: &[EpochRow], positions: usize) -> u64 {
     let mut most = 0;
     for position in 0..positions {
-        most = greatest_of(alloc, rows, Measure::Target(position))?.max(most);
+        most = greatest_of(rows, Measure::Target(position)).max(most);
     }
-    Ok(most)
+    most
+}
+
+fn ever_runs(rows: &[EpochRow], position: usize) -> bool {
+    rows.iter().any(|row| row.view(position).is_some())
 }
 
 // How many guests ever run.
-fn guests_of(alloc: Global, rows: &[EpochRow], positions: usize) -> Result<u64, AllocError> {
+fn guests_of(rows: &[EpochRow], positions: usize) -> u64 {
     let mut guests: u64 = 0;
     for position in 0..positions {
-        let values = samples(alloc, rows, Measure::Target(position))?;
-        let runs = values.iter().any(|value| value.is_some());
-        guests = guests.saturating_add(u64::from(runs));
+        guests = guests.saturating_add(u64::from(ever_runs(rows, position)));
     }
-    Ok(guests)
+    guests
 }
 
 // ---- scales
@@ -115,7 +101,6 @@ struct Chart {
     step: u64,
     parts: u64,
     top: u64,
-    ghost has_height: { 0 < top },
 }
 
 // The least number of round steps that reach a value, of which five would do.
@@ -138,11 +123,11 @@ fn lines_of(guests: u64) -> u64 {
 }
 
 // The chart of the pages, below the legend of the guests that ever run.
-fn page_scale(alloc: Global, rows: &[EpochRow], guests: u64) -> Result<Chart, AllocError> {
-    let swapped = greatest_of(alloc, rows, Measure::Total(Pages::SwappedOut))?;
-    let ballooned = greatest_of(alloc, rows, Measure::Total(Pages::Ballooned))?;
+fn page_scale(rows: &[EpochRow], guests: u64) -> Chart {
+    let swapped = greatest_of(rows, Measure::Total(Pages::SwappedOut));
+    let ballooned = greatest_of(rows, Measure::Total(Pages::Ballooned));
     let base = lines_of(guests).saturating_mul(24).saturating_add(1043);
-    Ok(reaching(base, swapped.max(ballooned)))
+    reaching(base, swapped.max(ballooned))
 }
 
 // The lines of a scale, with their values.
@@ -162,16 +147,12 @@ fn push_grid(text: &mut String, chart: Chart) -> Result<(), AllocError> {
 
 // ---- marks
 
-fn x_of(epochs: usize, epoch: usize) -> u128
-    requires { 0 < epochs }
-{
-    epoch as u128 * 880 / epochs as u128
+fn x_of(epochs: usize, epoch: usize) -> u128 {
+    epoch as u128 * 880 / epochs.max(1) as u128
 }
 
-fn y_of(top: u64, value: u64) -> u128
-    requires { 0 < top }
-{
-    u128::from(value) * 200 / u128::from(top)
+fn y_of(top: u64, value: u64) -> u128 {
+    u128::from(value) * 200 / u128::from(top.max(1))
 }
 
 fn is_marked(epochs: usize, epoch: usize, number: u64) -> bool {
@@ -193,23 +174,15 @@ fn colour(number: u64) -> &'static str {
     }
 }
 
-// The mark of a curve in an epoch, if it has one there.
+// The mark of a curve at a value, in an epoch of so many.
 fn push_mark(
     text: &mut String,
     chart: Chart,
     number: u64,
-    values: &[Option<u64>],
+    value: u64,
     epoch: usize,
-) -> Result<(), AllocError>
-    requires { epoch < length values.now }
-{
-    let epochs = values.len();
-    let Some(value) = values[epoch] else {
-        return Ok(());
-    };
-    if !is_marked(epochs, epoch, number) {
-        return Ok(());
-    }
+    epochs: usize,
+) -> Result<(), AllocError> {
     let (left, right) = (x_of(epochs, epoch), x_of(epochs, epoch.saturating_add(1)));
     let x = (left.saturating_add(right) / 2).saturating_add(90);
     let y = u128::from(chart.base).saturating_sub(y_of(chart.top, value));
@@ -225,7 +198,7 @@ fn push_mark(
     )
 }
 
-// The marks along a curve.
+// The marks along a curve: none in an epoch in which it has no value.
 fn push_marks(
     text: &mut String,
     chart: Chart,
@@ -233,76 +206,96 @@ fn push_marks(
     number: u64,
     measure: Measure,
 ) -> Result<(), AllocError> {
-    let values = samples(*text.allocator(), rows, measure)?;
-    for epoch in 0..values.len() {
-        push_mark(text, chart, number, values.as_slice(), epoch)?;
+    let epochs = rows.len();
+    for (epoch, row) in rows.iter().enumerate() {
+        match sample(row, measure) {
+            Some(value) if is_marked(epochs, epoch, number) => {
+                push_mark(text, chart, number, value, epoch, epochs)?;
+            }
+            _ => {}
+        }
     }
     Ok(())
 }
 
 // ---- drawings
 
-// The scale and the marks of the chart of the targets.
-fn target_pieces(alloc: Global, series: &Series) -> Result<[String; 2], AllocError> {
-    let (rows, positions) = (series.rows(), series.names().len());
-    let chart = reaching(755, greatest_target(alloc, rows, positions)?);
-    let (mut grid, mut marks) = (String::new(alloc), String::new(alloc));
-    push_grid(&mut grid, chart)?;
+fn grid_of(rt: &(impl Abort + AllocGlobal), chart: Chart) -> String {
+    let mut grid = String::new(rt.alloc());
+    push_grid(&mut grid, chart).expect(rt, "memory");
+    grid
+}
+
+// The marks of the chart of the targets.
+fn target_marks(
+    rt: &(impl Abort + AllocGlobal),
+    rows: &[EpochRow],
+    positions: usize,
+    chart: Chart,
+) -> String {
+    let mut marks = String::new(rt.alloc());
     for position in 0..positions {
         let target = Measure::Target(position);
-        push_marks(&mut marks, chart, rows, position as u64, target)?;
+        push_marks(&mut marks, chart, rows, position as u64, target).expect(rt, "memory");
     }
-    Ok([grid, marks])
+    marks
 }
 
-// The scale and the marks of the chart of the pages.
-fn page_pieces(alloc: Global, series: &Series) -> Result<[String; 2], AllocError> {
+// The marks of the chart of the pages.
+fn page_marks(rt: &(impl Abort + AllocGlobal), rows: &[EpochRow], chart: Chart) -> String {
+    let mut marks = String::new(rt.alloc());
+    let swapped = Measure::Total(Pages::SwappedOut);
+    push_marks(&mut marks, chart, rows, 0, swapped).expect(rt, "memory");
+    let ballooned = Measure::Total(Pages::Ballooned);
+    push_marks(&mut marks, chart, rows, 1, ballooned).expect(rt, "memory");
+    marks
+}
+
+// Asserts that a drawing has this scale and these marks, and tells how many marks they are.
+fn assert_chart(rt: &impl Abort, svg: &String, grid: &String, marks: &String) -> usize {
+    assert_shows(rt, svg, grid.as_str());
+    assert_shows(rt, svg, marks.as_str());
+    marks.as_str().matches(" dy=\"4\">").count()
+}
+
+fn assert_targets(rt: &(impl Abort + AllocGlobal), svg: &String, series: &Series) -> usize {
     let (rows, positions) = (series.rows(), series.names().len());
-    let chart = page_scale(alloc, rows, guests_of(alloc, rows, positions)?)?;
-    let (mut grid, mut marks) = (String::new(alloc), String::new(alloc));
-    push_grid(&mut grid, chart)?;
-    let (swapped, ballooned) = (Pages::SwappedOut, Pages::Ballooned);
-    push_marks(&mut marks, chart, rows, 0, Measure::Total(swapped))?;
-    push_marks(&mut marks, chart, rows, 1, Measure::Total(ballooned))?;
-    Ok([grid, marks])
+    let chart = reaching(755, greatest_target(rows, positions));
+    let grid = grid_of(rt, chart);
+    let marks = target_marks(rt, rows, positions, chart);
+    assert_chart(rt, svg, &grid, &marks)
 }
 
-// How many marks there are in a text.
-fn marks_in(text: &String) -> usize {
-    text.as_str().matches(" dy=\"4\">").count()
-}
-
-// Asserts that a drawing has these scales and marks, and no other marks but those of the legends.
-fn assert_pieces(
-    rt: &impl Abort,
+fn assert_pages(
+    rt: &(impl Abort + AllocGlobal),
     svg: &String,
+    rows: &[EpochRow],
     guests: u64,
-    targets: &[String; 2],
-    pages: &[String; 2],
-) {
-    let [target_grid, target_marks] = targets;
-    let [page_grid, page_marks] = pages;
-    for piece in [target_grid, target_marks, page_grid, page_marks] {
-        assert_shows(rt, svg, piece.as_str());
-    }
-    let marks = marks_in(target_marks).saturating_add(marks_in(page_marks));
-    let entries = guests.saturating_add(2) as usize;
-    assert_count(rt, svg, " dy=\"4\">", marks.saturating_add(entries));
+) -> usize {
+    let chart = page_scale(rows, guests);
+    let grid = grid_of(rt, chart);
+    let marks = page_marks(rt, rows, chart);
+    assert_chart(rt, svg, &grid, &marks)
+}
+
+// Asserts the scales and marks of a drawing, and that it has no other marks but those of the legends.
+fn assert_pieces(rt: &(impl Abort + AllocGlobal), svg: &String, series: &Series) {
+    let guests = guests_of(series.rows(), series.names().len());
+    let of_targets = assert_targets(rt, svg, series);
+    let of_pages = assert_pages(rt, svg, series.rows(), guests);
+    let of_legends = guests.saturating_add(2) as usize;
+    let marks = of_targets
+        .saturating_add(of_pages)
+        .saturating_add(of_legends);
+    assert_count(rt, svg, " dy=\"4\">", marks);
 }
 
 // Asserts the scales and marks of a run's drawing.
-fn assert_drawn(
-    rt: &(impl Abort + AllocGlobal + Threads + Sync),
-    config: &str,
-) -> Result<(), Fail> {
-    let alloc = rt.alloc();
-    let series = collect_series(rt, alloc, &Open, 1, config.as_bytes()).expect(rt, "a run");
-    let svg = String::from_utf8(svg_text(alloc, &series)?).expect(rt, "a text");
-    let targets = target_pieces(alloc, &series)?;
-    let pages = page_pieces(alloc, &series)?;
-    let guests = guests_of(alloc, series.rows(), series.names().len())?;
-    assert_pieces(rt, &svg, guests, &targets, &pages);
-    Ok(())
+fn assert_drawn(rt: &(impl Abort + AllocGlobal + Threads + Sync), config: &str) {
+    let series = collect_series(rt, rt.alloc(), &Open, 1, config.as_bytes()).expect(rt, "a run");
+    let text = svg_text(rt.alloc(), &series).expect(rt, "memory");
+    let svg = String::from_utf8(text).expect(rt, "a text");
+    assert_pieces(rt, &svg, &series);
 }
 
 // ---- runs
@@ -353,37 +346,45 @@ fn push_commands(config: &mut String, epochs: usize, guests: usize) -> Result<()
     Ok(())
 }
 
-fn run_of(alloc: Global, epochs: usize, guests: usize) -> Result<String, AllocError> {
-    let mut config = String::from_str(alloc, "{\"version\":1,\"frames\":60,\"swap\":100,")?;
+fn push_run(config: &mut String, epochs: usize, guests: usize) -> Result<(), AllocError> {
+    config.push_str("{\"version\":1,\"frames\":60,\"swap\":100,")?;
     let quantum = if epochs % 2 == 0 { 2 } else { 8 };
     write!(
         config,
         "\"quantum\":{quantum},\"epochs\":{epochs},\"guests\":["
     )?;
-    push_guests(&mut config, guests, epochs)?;
+    push_guests(config, guests, epochs)?;
     config.push_str("],\"commands\":[")?;
-    push_commands(&mut config, epochs, guests)?;
-    config.push_str("]}")?;
-    Ok(config)
+    push_commands(config, epochs, guests)?;
+    config.push_str("]}")
+}
+
+// Asserts the scales and marks of a run of so many epochs and guests.
+fn assert_run_drawn(
+    rt: &(impl Abort + AllocGlobal + Threads + Sync),
+    epochs: usize,
+    guests: usize,
+) {
+    let mut config = String::new(rt.alloc());
+    push_run(&mut config, epochs, guests).expect(rt, "memory");
+    assert_drawn(rt, config.as_str());
 }
 
 // A mark falls in each epoch where there are fewer than twelve, in every second one of fewer than eighteen, and in every third one of
 // eighteen; so each curve has gaps where a mark would be. A legend has eight guests in a line.
 #[test]
-fn marks_and_scales_follow_from_the_samples(rt: HostRuntime) -> Result<(), Fail> {
+fn marks_and_scales_follow_from_the_samples(rt: HostRuntime) {
     for epochs in [0, 1, 5, 6, 7, 11, 12, 13, 14, 18] {
         for guests in [0, 1, 4, 5, 9] {
-            let config = run_of(rt.alloc(), epochs, guests)?;
-            assert_drawn(&rt, config.as_str())?;
+            assert_run_drawn(&rt, epochs, guests);
         }
     }
-    Ok(())
 }
 
 // A guest of two frames, which writes to so many pages beside those, so that they are swapped out.
-fn swapped_run(alloc: Global, pages: usize) -> Result<String, AllocError> {
+fn push_swapped_run(config: &mut String, pages: usize) -> Result<(), AllocError> {
     let size = pages.saturating_add(3);
-    let mut config = String::from_str(alloc, "{\"version\":1,\"frames\":60,\"swap\":50,")?;
+    config.push_str("{\"version\":1,\"frames\":60,\"swap\":50,")?;
     config.push_str("\"quantum\":60,\"epochs\":1,\"guests\":[{\"name\":\"g\",")?;
     write!(
         config,
@@ -392,29 +393,35 @@ fn swapped_run(alloc: Global, pages: usize) -> Result<String, AllocError> {
     for page in 0..pages.saturating_add(2) {
         write!(config, ",\"w {page} 0 01\"")?;
     }
-    config.push_str("]}],\"commands\":[{\"at\":0,\"line\":\"setmem g 8\"}]}")?;
-    Ok(config)
+    config.push_str("]}],\"commands\":[{\"at\":0,\"line\":\"setmem g 8\"}]}")
 }
 
 // An idle guest of two frames, with so many pages beside those, which go into the balloon.
-fn ballooned_run(alloc: Global, pages: usize) -> Result<String, AllocError> {
+fn push_ballooned_run(config: &mut String, pages: usize) -> Result<(), AllocError> {
     let size = pages.saturating_add(2);
-    let mut config = String::from_str(alloc, "{\"version\":1,\"frames\":60,\"swap\":50,")?;
+    config.push_str("{\"version\":1,\"frames\":60,\"swap\":50,")?;
     config.push_str("\"epochs\":2,\"guests\":[{\"name\":\"g\",")?;
     write!(config, "\"size\":{size},\"min\":2,\"rate\":64}}]")?;
-    config.push_str(",\"commands\":[{\"at\":0,\"line\":\"setmem g 8\"}]}")?;
-    Ok(config)
+    config.push_str(",\"commands\":[{\"at\":0,\"line\":\"setmem g 8\"}]}")
+}
+
+fn assert_swapped_drawn(rt: &(impl Abort + AllocGlobal + Threads + Sync), pages: usize) {
+    let mut config = String::new(rt.alloc());
+    push_swapped_run(&mut config, pages).expect(rt, "memory");
+    assert_drawn(rt, config.as_str());
+}
+
+fn assert_ballooned_drawn(rt: &(impl Abort + AllocGlobal + Threads + Sync), pages: usize) {
+    let mut config = String::new(rt.alloc());
+    push_ballooned_run(&mut config, pages).expect(rt, "memory");
+    assert_drawn(rt, config.as_str());
 }
 
 // The greatest numbers of pages that a scale reaches, and the least that want the next one.
 #[test]
-fn scales_of_pages_follow_from_the_samples(rt: HostRuntime) -> Result<(), Fail> {
-    let alloc = rt.alloc();
+fn scales_of_pages_follow_from_the_samples(rt: HostRuntime) {
     for pages in [5, 6, 10, 11, 25, 26] {
-        let swapped = swapped_run(alloc, pages)?;
-        assert_drawn(&rt, swapped.as_str())?;
-        let ballooned = ballooned_run(alloc, pages)?;
-        assert_drawn(&rt, ballooned.as_str())?;
+        assert_swapped_drawn(&rt, pages);
+        assert_ballooned_drawn(&rt, pages);
     }
-    Ok(())
 }

@@ -1,19 +1,15 @@
 // The greatest number of domains, and of a domain's pages.
-use super::setup::{Silent, assert_bytes, assert_fault, fault, fault_of, text, with_room};
-use std::alloc::{AllocError, Global};
+use super::setup::{Silent, assert_report};
+use std::alloc::AllocError;
 use std::process::Abort;
-use std::test::Fail;
 use std::thread::Threads;
-use vm_sim::{Gate, Open, run};
+use vm_sim::{Gate, Open};
 
 const DOMAINS: u32 = 256;
 
 // Domains of one page, each of which writes its number there and reads it.
-fn many_domains(alloc: Global) -> Result<String, AllocError> {
-    let mut config = String::from_str(
-        alloc,
-        "{\"version\":2,\"frames\":300,\"epochs\":1,\"guests\":[",
-    )?;
+fn push_domains(config: &mut String) -> Result<(), AllocError> {
+    config.push_str("{\"version\":2,\"frames\":300,\"epochs\":1,\"guests\":[")?;
     for number in 0..DOMAINS {
         let comma = if number == 0 { "" } else { "," };
         write!(
@@ -21,8 +17,7 @@ fn many_domains(alloc: Global) -> Result<String, AllocError> {
             "{comma}{{\"name\":\"g{number}\",\"size\":1,\"min\":1,\"trace\":[\"w 0 0 {number:02x}\",\"r 0 0 1\"]}}"
         )?;
     }
-    config.push_str("]}")?;
-    Ok(config)
+    config.push_str("]}")
 }
 
 // What is told of their starts.
@@ -64,31 +59,23 @@ fn tell_all(report: &mut String) -> Result<(), AllocError> {
 }
 
 // Asserts that all of them run through this gate, on as many workers as there may be.
-fn assert_all_run(
-    rt: &(impl Abort + AllocGlobal + Threads + Sync),
-    gate: &(impl Gate + Sync),
-) -> Result<(), Fail> {
-    let alloc = rt.alloc();
-    let config = many_domains(alloc)?;
-    let mut report = String::new(alloc);
-    tell_all(&mut report)?;
-    let mut writer = with_room(alloc, 100_000);
-    let mut reader = text(config.as_bytes());
-    let outcome = run(rt, alloc, gate, 64, &mut reader, &mut writer);
-    assert_fault(rt, fault_of(outcome), None);
-    assert_bytes(rt, writer.held.as_slice(), report.as_bytes());
-    Ok(())
+fn assert_all_run(rt: &(impl Abort + AllocGlobal + Threads + Sync), gate: &(impl Gate + Sync)) {
+    let mut config = String::new(rt.alloc());
+    push_domains(&mut config).expect(rt, "memory");
+    let mut report = String::new(rt.alloc());
+    tell_all(&mut report).expect(rt, "memory");
+    assert_report(rt, gate, 64, config.as_str(), report.as_str());
 }
 
 #[test]
-fn all_256_domains_run(rt: HostRuntime) -> Result<(), Fail> {
-    assert_all_run(&rt, &Open)
+fn all_256_domains_run(rt: HostRuntime) {
+    assert_all_run(&rt, &Open);
 }
 
 // The same where the gate may wait, so that the epoch is a round on 64 threads.
 #[test]
-fn all_256_domains_run_on_threads(rt: HostRuntime) -> Result<(), Fail> {
-    assert_all_run(&rt, &Silent)
+fn all_256_domains_run_on_threads(rt: HostRuntime) {
+    assert_all_run(&rt, &Silent);
 }
 
 // The last page of 262144 is the first that goes into the balloon, so the guest waits for it until the next boundary.
@@ -104,8 +91,5 @@ machine 100 held 96 free 4 overhead 0\n";
 
 #[test]
 fn a_guest_uses_the_last_of_262144_pages(rt: HostRuntime) {
-    let mut writer = with_room(rt.alloc(), 10_000);
-    let outcome = fault(&rt, &mut text(LAST_PAGE.as_bytes()), &mut writer);
-    assert_fault(&rt, outcome, None);
-    assert_bytes(&rt, writer.held.as_slice(), LAST_PAGE_REPORT.as_bytes());
+    assert_report(&rt, &Open, 1, LAST_PAGE, LAST_PAGE_REPORT);
 }

@@ -1,8 +1,6 @@
 // Charts of whole runs: the places of the curves are worked out by hand from the rows of the runs.
 use super::setup::LOW_AND_BACK;
-use std::alloc::{AllocError, Global};
 use std::process::Abort;
-use std::test::Fail;
 use std::thread::Threads;
 use vm_drawing::{Axis, Chart, Curve, Drawing, draw};
 use vm_host::Open;
@@ -133,38 +131,50 @@ fn a_run_may_have_no_guest_and_no_epoch(rt: HostRuntime) {
 }
 
 // A curve with a gap, of values at the places 10, 15, 20 and 30.
-fn straight_curve(alloc: Global) -> Result<Curve, AllocError> {
-    let values = Vec::from_slice(alloc, &[Some(4), Some(0), None, Some(8)])?;
-    let places = Vec::from_slice(alloc, &[10, 15, 20, 30])?;
-    let name = String::from_str(alloc, "tax 0")?;
-    Ok(Curve::straight(0, name, values, places))
+fn straight_curve(rt: &(impl Abort + AllocGlobal)) -> Curve {
+    let values = Vec::from_slice(rt.alloc(), &[Some(4), Some(0), None, Some(8)]).expect(
+        rt, "memory",
+    );
+    let places = Vec::from_slice(rt.alloc(), &[10, 15, 20, 30]).expect(rt, "memory");
+    Curve::straight(0, words(rt, "tax 0"), values, places)
 }
 
-// A drawing of that curve alone.
-fn straight_drawing(alloc: Global) -> Result<Vec<u8>, AllocError> {
-    let title = String::from_str(alloc, "Pages")?;
-    let unit = String::from_str(alloc, "pages")?;
-    let mut curves = Vec::new(alloc);
-    curves.push(straight_curve(alloc)?)?;
-    let chart = Chart::new(title, unit, Vec::new(alloc), curves, true);
-    let mut charts = Vec::new(alloc);
-    charts.push(chart)?;
-    let title = String::from_str(alloc, "A sweep")?;
-    let note = String::from_str(alloc, "of machines")?;
-    let along = String::from_str(alloc, "frames")?;
+fn words(rt: &(impl Abort + AllocGlobal), text: &str) -> String {
+    String::from_str(rt.alloc(), text).expect(rt, "memory")
+}
+
+// A chart of that curve alone.
+fn straight_chart(rt: &(impl Abort + AllocGlobal)) -> Chart {
+    let mut curves = Vec::new(rt.alloc());
+    curves.push(straight_curve(rt)).expect(rt, "memory");
+    let levels = Vec::new(rt.alloc());
+    Chart::new(words(rt, "Pages"), words(rt, "pages"), levels, curves, true)
+}
+
+// A drawing of that chart alone.
+fn straight_drawing(rt: &(impl Abort + AllocGlobal)) -> Drawing {
+    let mut charts = Vec::new(rt.alloc());
+    charts.push(straight_chart(rt)).expect(rt, "memory");
     let axis = Axis {
         first: 10,
         last: 30,
         is_open: false,
     };
-    let drawing = Drawing::new(title, note, along, axis, charts);
-    draw(alloc, &drawing)
+    let note = words(rt, "of machines");
+    Drawing::new(
+        words(rt, "A sweep"),
+        note,
+        words(rt, "frames"),
+        axis,
+        charts,
+    )
 }
 
 // The scale ends at 8, and the axis has a tick at its end too; the marks stand at the values.
 #[test]
-fn straight_curves_join_their_values(rt: HostRuntime) -> Result<(), Fail> {
-    let text = straight_drawing(rt.alloc())?;
+fn straight_curves_join_their_values(rt: HostRuntime) {
+    let drawing = straight_drawing(&rt);
+    let text = draw(rt.alloc(), &drawing).expect(&rt, "memory");
     let svg = String::from_utf8(text).expect(&rt, "a text");
     let pieces = [
         "width=\"1010\" height=\"382\"",
@@ -178,5 +188,4 @@ fn straight_curves_join_their_values(rt: HostRuntime) -> Result<(), Fail> {
         assert_shows(&rt, &svg, piece);
     }
     assert_count(&rt, &svg, "class=\"tick\"", 11);
-    Ok(())
 }

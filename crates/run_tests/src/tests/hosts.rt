@@ -1,6 +1,6 @@
 // A host, and what is told of it.
+use super::check_eq;
 use super::setup::{TWO_IN_ORDER, text, with_room};
-use std::alloc::{AllocError, Global};
 use std::process::Abort;
 use std::thread::Threads;
 use vm_sim::{Config, Host, Lines, Open, boundary_text, end_text, epoch_text, read_config, run};
@@ -17,12 +17,12 @@ fn first_byte(host: &Host, name: &str, page: u32) -> Option<u8> {
 
 // Asserts what is shown of three domains.
 fn assert_first_bytes(rt: &impl Abort, shown: [Option<u8>; 3], wanted: [Option<u8>; 3]) {
-    assert_eq!(rt; shown, wanted);
+    check_eq(rt, shown, wanted);
 }
 
 // Asserts a text that tells of a host.
 fn assert_text(rt: &impl Abort, told: &str, wanted: &str) {
-    assert_eq!(rt; told, wanted);
+    check_eq(rt, told, wanted);
 }
 
 #[test]
@@ -63,17 +63,17 @@ fn host_of(rt: &(impl Abort + AllocGlobal), config: &str) -> Host {
 }
 
 // These lines.
-fn lines_of(alloc: Global, texts: &[&str]) -> Result<Lines, AllocError> {
-    let mut lines = Lines::new(alloc);
+fn lines_of(rt: &(impl Abort + AllocGlobal), texts: &[&str]) -> Lines {
+    let mut lines = Lines::new(rt.alloc());
     for line in texts {
-        lines.push(line)?;
+        lines.push(line).expect(rt, "there is memory");
     }
-    Ok(lines)
+    lines
 }
 
 // Asserts what is told of a boundary in which these lines are obeyed.
 fn assert_boundary(rt: &(impl Abort + AllocGlobal), host: &mut Host, texts: &[&str], wanted: &str) {
-    let lines = lines_of(rt.alloc(), texts).expect(rt, "there is memory");
+    let lines = lines_of(rt, texts);
     let boundary = host
         .boundary(rt.alloc(), &lines)
         .expect(rt, "there is memory");

@@ -1,48 +1,39 @@
 // Runs that go on by one epoch at a time on this thread, and what comes back at their ends.
-ghost use Rattle.std.specs.Prelude.{◌≡◌, ◌+◌, ◌<◌, OnOk};
+ghost use Rattle.std.specs.Prelude.{◌≡◌, ◌+◌, ◌<◌};
 ghost use Rattle.vm_host.specs.declared.phase.Phase.TheVariants.{Waiting};
 
 use super::setup::{LOW_AND_BACK, LOW_AND_BACK_REPORT, assert_bytes};
-use std::alloc::Global;
 use std::process::Abort;
-use vm_sim::{
-    Config, Open, RunError, SteppedRun, boundary_text, end_text, epoch_text, read_config,
-};
+use vm_sim::{Config, Open, SteppedRun, boundary_text, end_text, epoch_text, read_config};
 
 // The next epoch with its boundary, and what is told of them.
-fn tell_epoch(
-    alloc: Global,
-    number: u32,
-    run: &mut SteppedRun,
-    told: &mut String,
-) -> Result<(), RunError>
+fn tell_epoch(rt: &(impl Abort + AllocGlobal), run: &mut SteppedRun, number: u32, told: &mut String)
     requires left { run.old.done < run.old.epochs }
     requires waits { run.old.host.phase ≡ Waiting }
-    ensures waits { OnOk result (run.new.host.phase ≡ Waiting) }
-    ensures counted { OnOk result (run.new.done ≡ run.old.done + 1) }
-    ensures epochs { OnOk result (run.new.epochs ≡ run.old.epochs) }
+    ensures waits { run.new.host.phase ≡ Waiting }
+    ensures counted { run.new.done ≡ run.old.done + 1 }
+    ensures epochs { run.new.epochs ≡ run.old.epochs }
 {
-    let boundary = run.boundary(alloc)?;
-    let text = boundary_text(alloc, number, run.host(), &boundary)?;
-    told.push_str(text.as_str())?;
-    run.epoch_alone(&Open)?;
-    let text = epoch_text(alloc, run.host())?;
-    told.push_str(text.as_str())?;
-    Ok(())
+    let boundary = run.boundary(rt.alloc()).expect(rt, "memory");
+    let text = boundary_text(rt.alloc(), number, run.host(), &boundary).expect(rt, "memory");
+    told.push_str(text.as_str()).expect(rt, "memory");
+    run.epoch_alone(&Open).expect(rt, "memory");
+    let text = epoch_text(rt.alloc(), run.host()).expect(rt, "memory");
+    told.push_str(text.as_str()).expect(rt, "memory");
 }
 
 // What is told of a run from its first epoch to its end.
-fn told_of(alloc: Global, run: &mut SteppedRun) -> Result<String, RunError>
+fn told_of(rt: &(impl Abort + AllocGlobal), run: &mut SteppedRun) -> String
     requires fresh { run.old.done ≡ 0 }
     requires waits { run.old.host.phase ≡ Waiting }
 {
-    let mut told = String::new(alloc);
+    let mut told = String::new(rt.alloc());
     for number in 0..run.epochs() {
-        tell_epoch(alloc, number, run, &mut told)?;
+        tell_epoch(rt, run, number, &mut told);
     }
-    let text = end_text(alloc, run.host())?;
-    told.push_str(text.as_str())?;
-    Ok(told)
+    let text = end_text(rt.alloc(), run.host()).expect(rt, "memory");
+    told.push_str(text.as_str()).expect(rt, "memory");
+    told
 }
 
 // The run of a configuration before its first epoch.
@@ -56,7 +47,7 @@ fn begin(rt: &(impl Abort + AllocGlobal), config: Config) -> SteppedRun
 // Runs a configuration to its end, asserts its report, and gives back what it was run from.
 fn run_through(rt: &(impl Abort + AllocGlobal), config: Config, report: &str) -> Config {
     let mut run = begin(rt, config);
-    let told = told_of(rt.alloc(), &mut run).expect(rt, "there is memory");
+    let told = told_of(rt, &mut run);
     let config = run.close();
     assert_bytes(rt, told.as_str().as_bytes(), report.as_bytes());
     config
