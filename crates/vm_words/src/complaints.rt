@@ -72,6 +72,15 @@ impl CommandLine {
         BAD_WORDS
     }
 
+    /// Says why words are refused that are those of the command line, and gives the status to end with.
+    pub fn refuse_words<D: Display + Drop>(&self, system: &impl Eprint, why: D) -> u8
+        ensures { result ≡ 2 }
+    {
+        let program = self.program;
+        let _ = eprintln!(system; "{program}: {why}");
+        BAD_WORDS
+    }
+
     /// Says why the input is refused, and gives the status to end with.
     pub fn refuse<D: Display + Drop>(&self, system: &impl Eprint, why: D) -> u8
         ensures { result ≡ 1 }

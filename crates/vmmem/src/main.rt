@@ -2,7 +2,7 @@
 #![tactic(auto)]
 
 use std::process::ExitCode;
-use vm_program::vmmem;
+use vm_programs::vmmem::vmmem;
 
 fn main(rt: HostRuntime) -> ExitCode {
     vmmem(&rt)

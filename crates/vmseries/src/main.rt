@@ -3,7 +3,7 @@
 #![tactic(auto)]
 
 use std::process::ExitCode;
-use vm_series_program::vmseries;
+use vm_programs::vmseries::vmseries;
 
 fn main(rt: HostRuntime) -> ExitCode {
     vmseries(&rt)

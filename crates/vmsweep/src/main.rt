@@ -4,7 +4,7 @@
 #![tactic(auto)]
 
 use std::process::ExitCode;
-use vm_sweep_program::vmsweep;
+use vm_programs::vmsweep::vmsweep;
 
 fn main(rt: HostRuntime) -> ExitCode {
     vmsweep(&rt)

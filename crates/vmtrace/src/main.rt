@@ -4,7 +4,7 @@
 #![tactic(auto)]
 
 use std::process::ExitCode;
-use vm_import_program::vmtrace;
+use vm_programs::vmtrace::vmtrace;
 
 fn main(rt: HostRuntime) -> ExitCode {
     vmtrace(&rt)

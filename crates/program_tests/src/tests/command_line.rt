@@ -1,12 +1,12 @@
 // What words ask for, exit statuses, and what is said on standard error.
 ghost use Rattle.std.specs.Prelude.{◌≡◌, ◌∷◌, []};
-ghost use Rattle.vm_command_line.specs.Words.{HasWorkersInRange, workers_rule};
+ghost use Rattle.vm_programs.specs.runs.Words.{HasWorkersInRange, workers_rule};
 ghost use Rattle.vm_words.specs.Words.{line_of};
 
 use super::check_eq;
 use super::system::{assert_has_spoken, assert_said, assert_status, with_words};
 use std::process::Abort;
-use vm_command_line::{WORKERS, complain, workers_of};
+use vm_programs::runs::{WORKERS, complain, workers_of};
 use vm_sim::{ConfigError, RunError};
 use vm_words::{CommandLine, Flag, Request};
 

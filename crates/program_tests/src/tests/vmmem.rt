@@ -6,7 +6,7 @@ use super::setup::{
 use super::system::{assert_has_spoken, assert_said, assert_status, with_words};
 use std::process::Abort;
 use std::thread::Threads;
-use vm_program::status;
+use vm_programs::vmmem::status;
 
 // Asserts how the program ends for a configuration: its status, what it says, and what it writes.
 fn assert_end(

@@ -5,8 +5,8 @@ use super::setup::{
 use super::system::{assert_has_spoken, assert_said, assert_status, with_words};
 use std::process::Abort;
 use std::thread::Threads;
+use vm_programs::vmseries::status;
 use vm_series::{collect_series, csv_text, svg_text};
-use vm_series_program::status;
 use vm_sim::Open;
 
 // A machine without guests.

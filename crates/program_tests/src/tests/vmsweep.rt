@@ -7,7 +7,7 @@ use super::system::{assert_said, assert_status, with_words};
 use std::alloc::AllocError;
 use std::process::Abort;
 use std::thread::Threads;
-use vm_sweep_program::status;
+use vm_programs::vmsweep::status;
 
 const ADMISSION_RECORDS: &str = "400,50,75,16,0,0,1,0,5,2,1,0,0,0,0,0,0,0,0,0,0,0,no\r\n\
 400,75,75,16,0,0,1,0,5,2,1,0,0,0,0,0,0,0,0,0,0,0,no\r\n\

@@ -10,7 +10,7 @@ use super::system::{assert_has_spoken, assert_said, assert_status, with_words};
 use super::vmsweep::{assert_end, ended, front};
 use std::process::Abort;
 use std::thread::Threads;
-use vm_sweep_program::status;
+use vm_programs::vmsweep::status;
 
 // ---- the table by guests
 

@@ -2,7 +2,7 @@
 use super::setup::{AMPLE, Given, Narrow, assert_bytes, broken, text, with_room};
 use super::system::{assert_said, assert_status, with_words};
 use std::process::Abort;
-use vm_import_program::status;
+use vm_programs::vmtrace::status;
 
 // Runs the program, and asserts its status and what it says.
 fn assert_ended(

@@ -1,0 +1,6 @@
+pub mod runs
+pub mod vmmem
+pub mod vmseries
+pub mod vmsweep
+pub mod vmtrace
+pub mod words

@@ -1,0 +1,5 @@
+pub mod Range
+pub mod Reading
+pub mod Status
+pub mod Read
+pub mod Taken

@@ -1,0 +1,53 @@
+//! From the text of a configuration to its sweep.
+ghost use Rattle.std.specs.Prelude.{◌≡◌, ◌≤◌, Err, IfErr, OnOk};
+ghost use Rattle.std.specs.Io.KnownBytes.{Appends};
+ghost use Rattle.vm_sim.specs.declared.run_error.RunError.TheVariants.{Write};
+ghost use Rattle.vm_sim.specs.Run.{MeansConfig};
+ghost use Rattle.vm_streams.specs.Streams.{NewlyFailed};
+ghost use Rattle.vm_programs.specs.vmsweep.Asking.{value_lists};
+ghost use Rattle.vm_programs.specs.vmsweep.Written.{FailsOnSweep, sweep_of};
+ghost use Rattle.vm_programs.specs.vmsweep.Lists.{AreWithin, lists_in};
+
+use super::asked::{Asked, Form};
+use super::telling::Telling;
+use std::thread::Threads;
+use vm_sim::{RunError, Sink};
+use vm_sweep::{Lists, draw_sweep, sweep, sweep_guests};
+
+/// Runs the configuration that a text is as is asked for, and writes the sweep in the form that is asked for.
+pub(crate) fn write_sweep<RT: Threads + Sync, W: Sink>(
+    rt: &RT,
+    system: &(impl Eprint + AllocGlobal),
+    asked: Asked,
+    text: &[u8],
+    writer: &mut W,
+) -> Result<(), RunError>
+    requires within { AreWithin (lists_in asked) }
+    requires workers { (1 ≤ asked.workers) × (asked.workers ≤ 64) }
+    ensures done { OnOk result (MeansConfig (λ config. Appends (W.contents writer.old) (W.contents writer.new)
+        (sweep_of asked.form (value_lists (lists_in asked)) config)) text.now) }
+    ensures failed { IfErr result (FailsOnSweep (W.contents writer.old) (W.contents writer.new)
+        asked.form (value_lists (lists_in asked)) text.now) }
+    ensures writer_failed { NewlyFailed (W.has_failed writer.old) (W.has_failed writer.new) → result ≡ Err Write }
+{
+    let Asked {
+        frames,
+        swap,
+        tax,
+        page_rate,
+        form,
+        has_progress,
+        workers,
+    } = asked;
+    let lists = Lists::new(frames, swap, tax, page_rate);
+    let telling = Telling {
+        system,
+        is_wanted: has_progress,
+    };
+    let alloc = system.alloc();
+    match form {
+        Form::Table => sweep(rt, alloc, text, &lists, workers, &telling, writer),
+        Form::Guests => sweep_guests(rt, alloc, text, &lists, workers, &telling, writer),
+        Form::Drawing => draw_sweep(rt, alloc, text, &lists, workers, &telling, writer),
+    }
+}

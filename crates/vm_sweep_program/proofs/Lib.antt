@@ -1,5 +1,0 @@
-mod RangeLemmas
-mod ReadingLemmas
-mod StatusLemmas
-pub mod ReadLemmas
-pub mod TakenLemmas
