@@ -1,6 +1,6 @@
 mod admission;
 mod commands;
-mod json;
+mod config;
 mod lackey;
 mod lists;
 mod plan;

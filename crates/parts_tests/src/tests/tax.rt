@@ -1,12 +1,11 @@
-// Worked examples of prices and of the winner tree.
+// Worked examples of the winner trees.
 ghost use Rattle.std.specs.Prelude.{◌≡◌, ◌<◌, ◌≤◌, IfSome, length};
 ghost use Rattle.std.specs.List.{AllByRecursion};
 
 use super::check_eq;
 use std::alloc::Global;
-use std::cmp::Ordering;
 use std::process::Abort;
-use vm_tax::{Greatest, Price, Winners, cmp_price};
+use vm_tax::{Greatest, Price, Winners};
 
 // Shares, pages and active fraction, at one tax.
 fn price(shares: u32, pages: u32, active: u32) -> Price
@@ -33,81 +32,6 @@ fn check_least(rt: &impl Abort, winners: &Winners, want: Option<u32>) {
 // Asserts where the greatest price stands.
 fn check_greatest(rt: &impl Abort, greatest: &Greatest, want: Option<u32>) {
     check_eq(rt, greatest.greatest(), want);
-}
-
-#[test]
-fn prices_compare_as_fractions(rt: HostRuntime) {
-    let active = 65536;
-    check_eq(
-        &rt,
-        cmp_price(&price(100, 10, active), &price(100, 5, 0)),
-        Ordering::Greater,
-    );
-    check_eq(
-        &rt,
-        cmp_price(&price(100, 3, active), &price(199, 6, active)),
-        Ordering::Greater,
-    );
-    check_eq(
-        &rt,
-        cmp_price(&price(100, 5, active), &price(200, 10, active)),
-        Ordering::Equal,
-    );
-    check_eq(
-        &rt,
-        cmp_price(&price(100, 6, active), &price(100, 5, active)),
-        Ordering::Less,
-    );
-}
-
-#[test]
-fn greatest_products_compare(rt: HostRuntime) {
-    let more = Price {
-        shares: 1_000_000,
-        pages: 262_144,
-        active: 0,
-        tax: 0,
-    };
-    let less = Price {
-        shares: 1_000_000,
-        pages: 262_143,
-        active: 0,
-        tax: 0,
-    };
-    check_eq(&rt, cmp_price(&more, &less), Ordering::Less);
-}
-
-// Asserts that a page with the first active fraction and so many shares is worth as much as an idle one with those of the second.
-fn assert_worth(rt: &impl Abort, tax: u32, active: u32, shares: u32, idle_shares: u32)
-    requires tax { tax ≤ 9999 }
-    requires active { active ≤ 65536 }
-    requires some { (1 ≤ shares) × (1 ≤ idle_shares) }
-    requires few { (shares ≤ 1000000) × (idle_shares ≤ 1000000) }
-{
-    let used = Price {
-        shares,
-        pages: 1,
-        active,
-        tax,
-    };
-    let idle = Price {
-        shares: idle_shares,
-        pages: 1,
-        active: 0,
-        tax,
-    };
-    check_eq(rt, cmp_price(&used, &idle), Ordering::Equal);
-}
-
-// A used page weighs less than an idle one: at 75 percent a quarter, at 99 a hundredth, at 99.99 a ten-thousandth.
-#[test]
-fn used_pages_weigh_less(rt: HostRuntime) {
-    assert_worth(&rt, 7500, 65536, 1, 4);
-    assert_worth(&rt, 7500, 0, 1, 1);
-    assert_worth(&rt, 7500, 32768, 5, 8);
-    assert_worth(&rt, 0, 12345, 1, 1);
-    assert_worth(&rt, 9900, 65536, 1, 100);
-    assert_worth(&rt, 9999, 65536, 1, 10000);
 }
 
 // The winners of these prices.

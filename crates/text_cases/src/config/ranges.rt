@@ -1,0 +1,88 @@
+// Ranges of keys: both ends of each, and the numbers beside them.
+use crate::config::faults::first_fault;
+use crate::config::templates::{Part, with_keys};
+use crate::table::{Columns, Outcome};
+use std::alloc::{AllocError, Global};
+
+/// The range of a key in both versions.
+#[derive(Drop)]
+struct Case<'a> {
+    part: Part,
+    key: &'a str,
+    least: u64,
+    greatest_1: u64,
+    greatest_2: u64,
+}
+
+impl<'a> Case<'a> {
+    fn of(line: &'a str) -> Option<Self> {
+        let mut columns = Columns::of(line);
+        let case = Case {
+            part: Part::of(columns.text()?)?,
+            key: columns.text()?,
+            least: columns.number()?,
+            greatest_1: columns.number()?,
+            greatest_2: columns.number()?,
+        };
+        columns.end()?;
+        Some(case)
+    }
+
+    /// What comes of a number at the key.
+    fn came(&self, alloc: Global, version: u64, number: u64) -> Result<String, AllocError> {
+        let key = self.key;
+        let keys = format!(in alloc; "\"{key}\":{number}")?;
+        let text = with_keys(alloc, self.part, version, &keys)?;
+        first_fault(alloc, &text)
+    }
+
+    /// What is to come of a number outside the range.
+    fn refusal(&self, alloc: Global) -> Result<String, AllocError> {
+        let key = self.key;
+        match self.part {
+            Part::Root => format!(in alloc; "4 at key \"{key}\""),
+            Part::Guest => format!(in alloc; "4 at guest 0, key \"{key}\""),
+        }
+    }
+
+    /// Tries both ends of the range in a version, and the numbers beside them. The answer is the first difference.
+    fn difference(
+        &self,
+        alloc: Global,
+        version: u64,
+        greatest: u64,
+    ) -> Result<Option<String>, AllocError> {
+        let below = self.least.checked_sub(1);
+        let above = greatest.checked_add(1);
+        let inside = String::from_str(alloc, "ok")?;
+        let outside = self.refusal(alloc)?;
+        let tries = [
+            (Some(self.least), inside.as_str()),
+            (Some(greatest), inside.as_str()),
+            (below, outside.as_str()),
+            (above, outside.as_str()),
+        ];
+        for (number, wanted) in tries {
+            if let Some(number) = number {
+                let came = self.came(alloc, version, number)?;
+                if came.as_str() != wanted {
+                    return Ok(Some(format!(in alloc; "version {version}, {number}: {came}")?));
+                }
+            }
+        }
+        Ok(None)
+    }
+}
+
+/// Tries a line.
+pub(crate) fn outcome(alloc: Global, line: &str) -> Result<Outcome, AllocError> {
+    let Some(case) = Case::of(line) else {
+        return Ok(Outcome::Malformed);
+    };
+    for (version, greatest) in [(1, case.greatest_1), (2, case.greatest_2)] {
+        if let Some(told) = case.difference(alloc, version, greatest)? {
+            return Ok(Outcome::Differs(told));
+        }
+    }
+    Ok(Outcome::Agrees)
+}
