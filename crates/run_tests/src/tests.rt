@@ -1,9 +1,7 @@
 mod charts;
 mod ends;
-mod hosts;
-mod limits;
+mod lanes;
 mod marks;
-mod schedule;
 mod series;
 mod setup;
 mod stepping;

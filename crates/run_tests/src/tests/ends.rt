@@ -2,8 +2,8 @@
 use super::check_eq;
 use super::setup::{
     FIRST_READ, FIRST_READ_REPORT, Given, LOW_AND_BACK, LOW_AND_BACK_REPORT, Narrow,
-    SWAP_AND_STALL, assert_bytes, assert_fault, assert_fault_in, assert_length,
-    assert_reader_failed, assert_writer_failed, fault, fault_of, text, with_room,
+    SWAP_AND_STALL, assert_bytes, assert_fault, assert_reader_failed, assert_run,
+    assert_writer_failed, broken, fault_of, text, with_room,
 };
 use std::alloc::Global;
 use std::io;
@@ -16,14 +16,8 @@ fn prefixes_are_no_configurations(rt: HostRuntime) {
     let whole = SWAP_AND_STALL.as_bytes();
     for length in 0..whole.len() {
         let mut writer = with_room(rt.alloc(), 10_000);
-        let outcome = fault(&rt, &mut text(&whole[..length]), &mut writer);
-        assert_fault_in(
-            &rt,
-            length,
-            outcome,
-            Some(RunError::Config(ConfigError::NotJson)),
-        );
-        assert_length(&rt, writer.held.as_slice(), 0);
+        let refused = Some(RunError::Config(ConfigError::NotJson));
+        assert_run(&rt, &mut text(&whole[..length]), &mut writer, refused, &[]);
     }
 }
 
@@ -31,17 +25,10 @@ fn prefixes_are_no_configurations(rt: HostRuntime) {
 fn a_failed_read_writes_nothing(rt: HostRuntime) {
     let whole = FIRST_READ.as_bytes();
     for length in 0..whole.len() {
-        let mut reader = Given {
-            bytes: &whole[..length],
-            spaces: 0,
-            ends: false,
-            has_failed: false,
-        };
+        let mut reader = broken(&whole[..length]);
         let mut writer = with_room(rt.alloc(), 10_000);
-        let outcome = fault(&rt, &mut reader, &mut writer);
-        assert_fault_in(&rt, length, outcome, Some(RunError::Read));
+        assert_run(&rt, &mut reader, &mut writer, Some(RunError::Read), &[]);
         assert_reader_failed(&rt, &reader, true);
-        assert_length(&rt, writer.held.as_slice(), 0);
     }
 }
 
@@ -51,85 +38,60 @@ fn a_text_is_read_to_its_end(rt: HostRuntime) {
     let bytes = LOW_AND_BACK.as_bytes();
     let read = read_text(alloc, &mut text(bytes)).expect(&rt, "a text");
     assert_bytes(&rt, read.as_slice(), bytes);
-    let mut reader = Given {
-        bytes,
-        spaces: 0,
-        ends: false,
-        has_failed: false,
-    };
-    assert_fault(
-        &rt,
-        read_text(alloc, &mut reader).err(),
-        Some(RunError::Read),
-    );
+    let failed = read_text(alloc, &mut broken(bytes));
+    assert_fault(&rt, failed.err(), Some(RunError::Read));
 }
 
 const MAX_INPUT: usize = 16_777_216;
 
-// Asserts that no more was taken than this.
-fn assert_at_most(rt: &impl Abort, taken: usize, limit: usize) {
-    assert!(rt; taken <= limit);
+// A text with so many spaces behind it.
+fn spaced(bytes: &[u8], spaces: usize) -> Given<'_> {
+    Given {
+        bytes,
+        spaces,
+        ends: true,
+        has_failed: false,
+    }
 }
 
 #[test]
 fn an_input_has_a_greatest_length(rt: HostRuntime) {
     let bytes = FIRST_READ.as_bytes();
     let room = usize::saturating_sub(MAX_INPUT, bytes.len());
-    let mut reader = Given {
-        bytes,
-        spaces: room,
-        ends: true,
-        has_failed: false,
-    };
     let mut writer = with_room(rt.alloc(), 10_000);
-    assert_fault(&rt, fault(&rt, &mut reader, &mut writer), None);
-    assert_bytes(&rt, writer.held.as_slice(), FIRST_READ_REPORT.as_bytes());
+    let report = FIRST_READ_REPORT.as_bytes();
+    assert_run(&rt, &mut spaced(bytes, room), &mut writer, None, report);
 
-    let mut endless = Given {
-        bytes,
-        spaces: 1_000_000_000,
-        ends: true,
-        has_failed: false,
-    };
+    let mut endless = spaced(bytes, 1_000_000_000);
     let mut writer = with_room(rt.alloc(), 10_000);
-    let outcome = fault(&rt, &mut endless, &mut writer);
-    assert_fault(&rt, outcome, Some(RunError::Read));
+    assert_run(&rt, &mut endless, &mut writer, Some(RunError::Read), &[]);
     let taken = usize::saturating_sub(1_000_000_000, endless.spaces);
-    assert_at_most(&rt, taken, usize::saturating_add(room, 1));
-    assert_length(&rt, writer.held.as_slice(), 0);
+    assert!(rt; taken <= usize::saturating_add(room, 1));
 }
 
 #[test]
 fn a_writer_that_fails_has_a_front_of_the_report(rt: HostRuntime) {
     let report = LOW_AND_BACK_REPORT.as_bytes();
     for room in 0..report.len() {
+        let mut reader = text(LOW_AND_BACK.as_bytes());
         let mut writer = with_room(rt.alloc(), room);
-        let outcome = fault(&rt, &mut text(LOW_AND_BACK.as_bytes()), &mut writer);
-        assert_fault_in(&rt, room, outcome, Some(RunError::Write));
-        assert_bytes(&rt, writer.held.as_slice(), &report[..room]);
+        let front = &report[..room];
+        assert_run(&rt, &mut reader, &mut writer, Some(RunError::Write), front);
         assert_writer_failed(&rt, &writer, true);
     }
 }
 
 #[test]
 fn a_slow_writer_has_the_whole_report(rt: HostRuntime) {
+    let mut reader = text(LOW_AND_BACK.as_bytes());
     let mut writer = Narrow {
         held: Vec::new(rt.alloc()),
         room: 10_000,
         width: 1,
         has_failed: false,
     };
-    let outcome = fault(&rt, &mut text(LOW_AND_BACK.as_bytes()), &mut writer);
-    assert_fault(&rt, outcome, None);
-    assert_bytes(&rt, writer.held.as_slice(), LOW_AND_BACK_REPORT.as_bytes());
-}
-
-#[test]
-fn a_refused_configuration_writes_nothing(rt: HostRuntime) {
-    let mut writer = with_room(rt.alloc(), 10_000);
-    let outcome = fault(&rt, &mut text("{}".as_bytes()), &mut writer);
-    assert_fault(&rt, outcome, Some(RunError::Config(ConfigError::Missing)));
-    assert_length(&rt, writer.held.as_slice(), 0);
+    let report = LOW_AND_BACK_REPORT.as_bytes();
+    assert_run(&rt, &mut reader, &mut writer, None, report);
 }
 
 // A reader and a writer whose every other call is interrupted.

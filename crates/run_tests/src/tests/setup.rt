@@ -1,11 +1,11 @@
 // Configurations with their reports, and readers and writers that fail.
 use super::check_eq;
-use std::alloc::{AllocError, Global};
+use std::alloc::Global;
 use std::io;
 use std::io::{Error, ErrorKind};
 use std::process::Abort;
 use std::thread::Threads;
-use vm_sim::{Gate, Host, Open, Ran, RunError, Sink, Source, run};
+use vm_sim::{Host, Open, RunError, Sink, Source, run};
 
 pub(super) const FIRST_READ: &str =
     "{\"version\":1,\"frames\":100,\"epochs\":1,\"guests\":[{\"name\":\"web\",\"size\":4,\"min\":4,\
@@ -39,24 +39,6 @@ pub(super) const TWO_IN_ORDER: &str =
 {\"name\":\"a\",\"size\":2,\"min\":2,\"trace\":[\"w 0 0 0a\",\"r 0 0 1\"]},\
 {\"name\":\"b\",\"size\":1,\"min\":1,\"trace\":[\"r 0 0 2\"]}]}";
 
-pub(super) const FIVE_GUESTS: &str = "{\"version\":1,\"frames\":20,\"epochs\":1,\"guests\":[\
-{\"name\":\"g0\",\"size\":2,\"min\":2,\"trace\":[\"w 0 0 10\",\"r 0 0 1\"]},\
-{\"name\":\"g1\",\"size\":2,\"min\":2,\"trace\":[\"w 0 0 11\",\"r 0 0 1\"]},\
-{\"name\":\"g2\",\"size\":2,\"min\":2,\"trace\":[\"w 0 0 12\",\"r 0 0 1\"]},\
-{\"name\":\"g3\",\"size\":2,\"min\":2,\"trace\":[\"w 0 0 13\",\"r 0 0 1\"]},\
-{\"name\":\"g4\",\"size\":2,\"min\":2,\"trace\":[\"w 0 0 14\",\"r 0 0 1\"]}]}";
-
-pub(super) const FIVE_GUESTS_REPORT: &str =
-    "epoch 0\n> start g0\nok\n> start g1\nok\n> start g2\nok\n> start g3\nok\n\
-> start g4\nok\nstate high free 10\n\
-g0 r 0 0 10\ng1 r 0 0 11\ng2 r 0 0 12\ng3 r 0 0 13\ng4 r 0 0 14\nend\n\
-g0 target 2 held 2 swapped 0 balloon 0 active 65536 bad 0 done 2\n\
-g1 target 2 held 2 swapped 0 balloon 0 active 65536 bad 0 done 2\n\
-g2 target 2 held 2 swapped 0 balloon 0 active 65536 bad 0 done 2\n\
-g3 target 2 held 2 swapped 0 balloon 0 active 65536 bad 0 done 2\n\
-g4 target 2 held 2 swapped 0 balloon 0 active 65536 bad 0 done 2\n\
-machine 20 held 10 free 10 overhead 0\n";
-
 pub(super) const OVERHEAD_ADMITTED: &str =
     "{\"version\":1,\"frames\":100,\"overhead\":1,\"epochs\":1,\"guests\":[\
 {\"name\":\"a\",\"size\":60,\"min\":60},{\"name\":\"b\",\"size\":38,\"min\":38}]}";
@@ -66,50 +48,6 @@ pub(super) const OVERHEAD_ADMITTED_REPORT: &str =
 a target 60 held 60 swapped 0 balloon 0 active 65536 bad 0 done 0\n\
 b target 38 held 38 swapped 0 balloon 0 active 65536 bad 0 done 0\n\
 machine 100 held 98 free 0 overhead 2\n";
-
-// Two guests with 2000 steps each in one epoch, enough for a thread each: each writes 0 to 1998 to its first byte, without what is
-// over 255, and reads it.
-pub(super) fn push_long_epoch(config: &mut String) -> Result<(), AllocError> {
-    config.push_str("{\"version\":1,\"frames\":100,\"quantum\":2000,\"epochs\":1,\"guests\":[")?;
-    push_long_guest(config, "a")?;
-    config.push_str(",")?;
-    push_long_guest(config, "b")?;
-    config.push_str("]}")
-}
-
-fn push_long_guest(config: &mut String, name: &str) -> Result<(), AllocError> {
-    write!(
-        config,
-        "{{\"name\":\"{name}\",\"size\":4,\"min\":4,\"period\":1000000,\"trace\":["
-    )?;
-    for number in 0..1999u32 {
-        write!(config, "\"w 0 0 {:02x}\",", number % 256)?;
-    }
-    config.push_str("\"r 0 0 1\"]}")
-}
-
-// A gate that does nothing, and does not say that it never waits: so an epoch on two workers or more is a round on threads.
-pub(super) struct Silent;
-
-impl Gate for Silent {
-    ghost use Rattle.std.specs.Prelude.{⊤};
-
-    type Outside = ();
-
-    type Inside = ();
-
-    ghost passed = { λ _ _. ⊤ };
-
-    ghost inside = { λ _ _ _. ⊤ };
-
-    fn arrive(&self) {}
-
-    fn enter(&self, _outside: (), _number: u32) {}
-
-    fn leave(&self, _ran: Ran<()>, _number: u32)
-        ensures { ⊤ }
-    {}
-}
 
 // A reader that gives these bytes, then so many spaces, and then fails or ends.
 #[derive(Drop)]
@@ -155,6 +93,16 @@ pub(super) fn text(bytes: &[u8]) -> Given<'_> {
         bytes,
         spaces: 0,
         ends: true,
+        has_failed: false,
+    }
+}
+
+// A reader that fails after these bytes.
+pub(super) fn broken(bytes: &[u8]) -> Given<'_> {
+    Given {
+        bytes,
+        spaces: 0,
+        ends: false,
         has_failed: false,
     }
 }
@@ -214,53 +162,27 @@ pub(super) fn fault_of(outcome: Result<Host, RunError>) -> Option<RunError> {
     }
 }
 
-// Runs a configuration on one worker, and gives its error, if there is one.
-pub(super) fn fault<R: Source, W: Sink>(
-    rt: &(impl AllocGlobal + Threads + Sync),
-    reader: &mut R,
-    writer: &mut W,
-) -> Option<RunError> {
-    fault_of(run(rt, rt.alloc(), &Open, 1, reader, writer))
-}
-
 // Asserts how a run ended: with this error, or with none.
 pub(super) fn assert_fault(rt: &impl Abort, fault: Option<RunError>, wanted: Option<RunError>) {
     check_eq(rt, fault, wanted);
 }
 
-// The same for the case of a number.
-pub(super) fn assert_fault_in(
-    rt: &impl Abort,
-    case: usize,
-    fault: Option<RunError>,
-    wanted: Option<RunError>,
-) {
-    assert_eq!(rt; fault, wanted, "{case}");
-}
-
-// Asserts what so many workers write for a configuration.
-pub(super) fn assert_report(
+// Runs a configuration on one worker, and asserts how that ended, and what was written.
+pub(super) fn assert_run(
     rt: &(impl Abort + AllocGlobal + Threads + Sync),
-    gate: &(impl Gate + Sync),
-    workers: u32,
-    config: &str,
-    report: &str,
+    reader: &mut Given,
+    writer: &mut Narrow,
+    wanted: Option<RunError>,
+    written: &[u8],
 ) {
-    let mut writer = with_room(rt.alloc(), 100_000);
-    let mut reader = text(config.as_bytes());
-    let outcome = run(rt, rt.alloc(), gate, workers, &mut reader, &mut writer);
-    assert_fault_in(rt, workers as usize, fault_of(outcome), None);
-    assert_bytes(rt, writer.held.as_slice(), report.as_bytes());
+    let outcome = run(rt, rt.alloc(), &Open, 1, reader, writer);
+    assert_fault(rt, fault_of(outcome), wanted);
+    assert_bytes(rt, writer.held.as_slice(), written);
 }
 
 // Asserts that these are the bytes that were read or written.
 pub(super) fn assert_bytes(rt: &impl Abort, bytes: &[u8], wanted: &[u8]) {
     check_eq(rt, bytes, wanted);
-}
-
-// Asserts how many bytes there are.
-pub(super) fn assert_length(rt: &impl Abort, bytes: &[u8], wanted: usize) {
-    check_eq(rt, bytes.len(), wanted);
 }
 
 // Asserts whether a reader has failed.

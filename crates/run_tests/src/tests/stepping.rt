@@ -2,9 +2,14 @@
 ghost use Rattle.std.specs.Prelude.{◌≡◌, ◌+◌, ◌<◌};
 ghost use Rattle.vm_host.specs.declared.phase.Phase.TheVariants.{Waiting};
 
-use super::setup::{LOW_AND_BACK, LOW_AND_BACK_REPORT, assert_bytes};
+use super::check_eq;
+use super::setup::{
+    LOW_AND_BACK, LOW_AND_BACK_REPORT, TWO_IN_ORDER, assert_bytes, text, with_room,
+};
 use std::process::Abort;
-use vm_sim::{Config, Open, SteppedRun, boundary_text, end_text, epoch_text, read_config};
+use vm_sim::{
+    Config, Host, Open, SteppedRun, boundary_text, end_text, epoch_text, read_config, run,
+};
 
 // The next epoch with its boundary, and what is told of them.
 fn tell_epoch(rt: &(impl Abort + AllocGlobal), run: &mut SteppedRun, number: u32, told: &mut String)
@@ -69,4 +74,40 @@ fn a_run_begins_again(rt: HostRuntime) {
     let config = run_through(&rt, config, LOW_AND_BACK_REPORT);
     let config = end_early(&rt, config);
     run_through(&rt, config, LOW_AND_BACK_REPORT);
+}
+
+// The first byte of a page, where it is shown.
+fn first_byte(host: &Host, name: &str, page: u32) -> Option<u8> {
+    let mut bytes = [0; 4096];
+    if host.peek(name, page, &mut bytes) {
+        Some(bytes[0])
+    } else {
+        None
+    }
+}
+
+// Asserts what is shown of three domains.
+fn assert_first_bytes(rt: &impl Abort, shown: [Option<u8>; 3], wanted: [Option<u8>; 3]) {
+    check_eq(rt, shown, wanted);
+}
+
+#[test]
+fn the_host_shows_memory_at_the_end(rt: HostRuntime) {
+    let mut writer = with_room(rt.alloc(), 10_000);
+    let outcome = run(
+        &rt,
+        rt.alloc(),
+        &Open,
+        1,
+        &mut text(TWO_IN_ORDER.as_bytes()),
+        &mut writer,
+    );
+    let host = outcome.expect(&rt, "there is memory");
+    let shown = [
+        first_byte(&host, "a", 0),
+        first_byte(&host, "b", 1),
+        first_byte(&host, "c", 0),
+    ];
+    host.close();
+    assert_first_bytes(&rt, shown, [Some(0x0a), None, None]);
 }

@@ -1,29 +1,13 @@
-// Any number of workers.
+// Numbers of workers that there aren't, and two workers at once.
 use super::setup::{
-    FIRST_READ, FIRST_READ_REPORT, FIVE_GUESTS, FIVE_GUESTS_REPORT, LOW_AND_BACK,
-    LOW_AND_BACK_REPORT, OVERHEAD_ADMITTED, OVERHEAD_ADMITTED_REPORT, Silent, assert_fault,
-    assert_length, assert_reader_failed, assert_report, fault_of, text, with_room,
+    FIRST_READ, LOW_AND_BACK, OVERHEAD_ADMITTED, OVERHEAD_ADMITTED_REPORT, assert_bytes,
+    assert_fault, assert_reader_failed, fault_of, text, with_room,
 };
 use std::process::Abort;
 use std::sync::atomic::{AtomicU64, Ordering};
 use std::thread;
+use vm_series::collect_series;
 use vm_sim::{Gate, Open, Ran, RunError, run};
-
-// Through a gate that never waits epochs of so few steps stay on one thread, and through the other one they are rounds on threads.
-#[test]
-fn reports_are_the_same_for_all_workers(rt: HostRuntime) {
-    let examples = [
-        (FIRST_READ, FIRST_READ_REPORT),
-        (FIVE_GUESTS, FIVE_GUESTS_REPORT),
-        (LOW_AND_BACK, LOW_AND_BACK_REPORT),
-    ];
-    for workers in [1, 2, 5, 64] {
-        for (input, report) in examples {
-            assert_report(&rt, &Open, workers, input, report);
-            assert_report(&rt, &Silent, workers, input, report);
-        }
-    }
-}
 
 #[test]
 fn workers_come_first(rt: HostRuntime) {
@@ -32,9 +16,17 @@ fn workers_come_first(rt: HostRuntime) {
         let mut writer = with_room(rt.alloc(), 10_000);
         let outcome = run(&rt, rt.alloc(), &Open, workers, &mut reader, &mut writer);
         assert_fault(&rt, fault_of(outcome), Some(RunError::Workers));
-        assert_length(&rt, reader.bytes, FIRST_READ.len());
+        assert_bytes(&rt, reader.bytes, FIRST_READ.as_bytes());
         assert_reader_failed(&rt, &reader, false);
-        assert_length(&rt, writer.held.as_slice(), 0);
+        assert_bytes(&rt, writer.held.as_slice(), &[]);
+    }
+}
+
+#[test]
+fn workers_of_a_series_come_first(rt: HostRuntime) {
+    for workers in [0, 65] {
+        let outcome = collect_series(&rt, rt.alloc(), &Open, workers, LOW_AND_BACK.as_bytes());
+        assert_fault(&rt, outcome.err(), Some(RunError::Workers));
     }
 }
 
@@ -95,6 +87,14 @@ fn assert_met(rt: &impl Abort, gate: &Meeting) {
 #[test]
 fn two_tickets_at_once(rt: HostRuntime) {
     let gate = nobody_met();
-    assert_report(&rt, &gate, 2, OVERHEAD_ADMITTED, OVERHEAD_ADMITTED_REPORT);
+    let mut reader = text(OVERHEAD_ADMITTED.as_bytes());
+    let mut writer = with_room(rt.alloc(), 10_000);
+    let outcome = run(&rt, rt.alloc(), &gate, 2, &mut reader, &mut writer);
+    assert_fault(&rt, fault_of(outcome), None);
+    assert_bytes(
+        &rt,
+        writer.held.as_slice(),
+        OVERHEAD_ADMITTED_REPORT.as_bytes(),
+    );
     assert_met(&rt, &gate);
 }
