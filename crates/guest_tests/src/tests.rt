@@ -1,6 +1,5 @@
 mod board;
 mod gates;
-mod guest;
 mod pool;
 mod traces;
 

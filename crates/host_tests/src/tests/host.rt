@@ -1,7 +1,6 @@
 // Hosts from their start to their end, by worked examples.
 mod commands;
 mod epochs;
-mod frames;
 mod limits;
 mod lone_host;
 mod setup;

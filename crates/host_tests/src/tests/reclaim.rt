@@ -7,21 +7,15 @@ ghost use Rattle.vm_pool.specs.Pool.{guest_at};
 use crate::tests::check_eq;
 use std::alloc::Global;
 use std::process::Abort;
-use std::thread::Threads;
 use vm_domains::{MachineSpec, Percents};
 use vm_guest::{GuestSpec, GuestView};
 use vm_plan::{Plan, State, next_state};
-use vm_pool::{Open, Pool};
-use vm_reclaim::{
-    Numbers, Paged, Raise, blocks_in, carry_out, make_room, numbers_of, plan_boundary,
-};
+use vm_pool::Pool;
+use vm_reclaim::{Numbers, Paged, blocks_in, carry_out, make_room, numbers_of, plan_boundary};
 use vm_trace::Trace;
 
 // How a machine of 100 frames decides.
-fn numbers(page_rate: u32) -> Numbers
-    requires some { 1 ≤ page_rate }
-    requires few { page_rate ≤ 256 }
-{
+fn numbers() -> Numbers {
     let machine = MachineSpec {
         frames: 100,
         swap: 98,
@@ -33,7 +27,7 @@ fn numbers(page_rate: u32) -> Numbers
             hard: 200,
             low: 100,
         },
-        page_rate,
+        page_rate: 16,
     };
     numbers_of(&machine)
 }
@@ -115,24 +109,6 @@ fn set_min_within(rt: &impl Abort, pool: &mut Pool, position: usize, least: u32)
     pool.set_min(position, least).expect(rt, "memory");
 }
 
-// Raises a minimum, and tells how many pages of the first guest's target fell for it.
-fn raise_min(
-    rt: &(impl AllocGlobal + Abort),
-    numbers: &Numbers,
-    pool: &mut Pool,
-    position: usize,
-    least: u32,
-) -> usize {
-    assert!(rt; pool.len() <= 256 && position < pool.len() && least >= 1);
-    let view = pool.view(position).expect(rt, "it runs");
-    assert!(rt; least <= view.cap);
-    let needed = least.saturating_sub(view.held);
-    let raise = Raise { position, least };
-    let plan = make_room(rt.alloc(), numbers.tax, pool, Some(raise), needed).expect(rt, "memory");
-    set_min_within(rt, pool, position, least);
-    count_of(&plan, 0)
-}
-
 // How often a position is told.
 fn count_of(plan: &Plan, position: u32) -> usize {
     let mut count = 0usize;
@@ -168,14 +144,6 @@ struct Told {
     paged: u32,
     // Whether the first guest is blocked.
     blocked: bool,
-}
-
-// Guests run an epoch; then devices are served, and spares come back.
-fn next_epoch(rt: &(impl AllocGlobal + Abort + Threads + Sync), pool: &mut Pool) {
-    pool.serve_all();
-    pool.epoch(rt, rt.alloc(), &Open, 1).expect(rt, "memory");
-    pool.serve_all();
-    pool.spares_back_all();
 }
 
 // The rest of a boundary, once its lines are obeyed.
@@ -241,115 +209,11 @@ fn check_frames(rt: &impl Abort, pool: &Pool, position: usize, frames: (u32, u32
     check_eq(rt, frames_of(pool, position), Some(frames));
 }
 
-#[test]
-fn a_second_guest_takes_its_frames_from_the_first(rt: HostRuntime) {
-    let alloc = rt.alloc();
-    let numbers = numbers(16);
-    let mut pool = pool_of(
-        &rt,
-        100,
-        guest_of(alloc, 100, 10, 1000),
-        guest_of(alloc, 2, 2, 1000),
-    );
-    check_start(&rt, &numbers, &mut pool, 0, 0);
-    let first = settle(&rt, &numbers, &mut pool, State::High);
-    let wanted = Told {
-        granted: [86, 0],
-        ..quiet(State::High, 90)
-    };
-    check_told(&rt, first, wanted);
-
-    next_epoch(&rt, &mut pool);
-    check_start(&rt, &numbers, &mut pool, 1, 0);
-    let second = settle(&rt, &numbers, &mut pool, first.state);
-    let wanted = Told {
-        revoked: [5, 0],
-        ..quiet(State::Soft, 2)
-    };
-    check_told(&rt, second, wanted);
-
-    next_epoch(&rt, &mut pool);
-    let third = settle(&rt, &numbers, &mut pool, second.state);
-    check_told(&rt, third, quiet(State::High, 7));
-    check_frames(&rt, &pool, 0, (91, 91));
-    check_frames(&rt, &pool, 1, (2, 2));
-    pool.close();
-}
-
-#[test]
-fn in_low_a_guest_is_paged_and_waits(rt: HostRuntime) {
-    let alloc = rt.alloc();
-    let numbers = numbers(1);
-    let mut pool = pool_of(
-        &rt,
-        100,
-        guest_of(alloc, 100, 10, 1000),
-        guest_of(alloc, 5, 5, 1000),
-    );
-    check_start(&rt, &numbers, &mut pool, 0, 0);
-    let first = settle(&rt, &numbers, &mut pool, State::High);
-    check_eq(&rt, first.granted, [86, 0]);
-
-    // The second guest lacks a frame.
-    next_epoch(&rt, &mut pool);
-    check_start(&rt, &numbers, &mut pool, 1, 1);
-    let second = settle(&rt, &numbers, &mut pool, first.state);
-    let wanted = Told {
-        revoked: [7, 0],
-        paged: 1,
-        blocked: true,
-        ..quiet(State::Low, 0)
-    };
-    check_told(&rt, second, wanted);
-
-    next_epoch(&rt, &mut pool);
-    let third = settle(&rt, &numbers, &mut pool, second.state);
-    check_told(&rt, third, quiet(State::Hard, 7));
-    next_epoch(&rt, &mut pool);
-    let fourth = settle(&rt, &numbers, &mut pool, third.state);
-    check_told(&rt, fourth, quiet(State::Soft, 7));
-    check_frames(&rt, &pool, 0, (88, 88));
-    pool.close();
-}
-
-#[test]
-fn a_raised_minimum_takes_from_the_other_guest(rt: HostRuntime) {
-    let alloc = rt.alloc();
-    let numbers = numbers(16);
-    let mut pool = pool_of(
-        &rt,
-        100,
-        guest_of(alloc, 90, 10, 1000),
-        guest_of(alloc, 20, 2, 1),
-    );
-    check_start(&rt, &numbers, &mut pool, 0, 0);
-    check_start(&rt, &numbers, &mut pool, 1, 0);
-    let first = settle(&rt, &numbers, &mut pool, State::High);
-    let wanted = Told {
-        granted: [80, 4],
-        ..quiet(State::High, 88)
-    };
-    check_told(&rt, first, wanted);
-
-    next_epoch(&rt, &mut pool);
-    check_eq(&rt, raise_min(&rt, &numbers, &mut pool, 1, 16), 6);
-    let second = settle(&rt, &numbers, &mut pool, first.state);
-    let wanted = Told {
-        revoked: [7, 0],
-        paged: 7,
-        ..quiet(State::Low, 0)
-    };
-    check_told(&rt, second, wanted);
-    check_frames(&rt, &pool, 0, (77, 77));
-    check_frames(&rt, &pool, 1, (16, 16));
-    pool.close();
-}
-
 // What the first guest gives up is granted to the second in the same boundary.
 #[test]
 fn frames_given_up_are_granted(rt: HostRuntime) {
     let alloc = rt.alloc();
-    let numbers = numbers(16);
+    let numbers = numbers();
     let mut pool = pool_of(
         &rt,
         100,
@@ -390,7 +254,7 @@ fn equal_guests_give_in_turn(rt: HostRuntime) {
     set_min_within(&rt, &mut pool, 0, 1);
     set_min_within(&rt, &mut pool, 1, 1);
     assert!(rt; pool.len() <= 256);
-    let plan = plan_boundary(alloc, &numbers(16), &pool, State::Soft).expect(&rt, "memory");
+    let plan = plan_boundary(alloc, &numbers(), &pool, State::Soft).expect(&rt, "memory");
     let revoked: Vec<u32> = plan.revoked.moves().collect(alloc).expect(&rt, "memory");
     check_eq(&rt, revoked.as_slice(), [0, 1].as_slice());
     pool.close();

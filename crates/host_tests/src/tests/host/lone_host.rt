@@ -257,12 +257,6 @@ fn assert_answers(rt: &impl Abort, boundary: &Boundary, wanted: &[(&str, Outcome
     check_eq(rt, (wanted, history_by(boundary)), (wanted, told));
 }
 
-// How many frames a guest is to have, and how many it has.
-fn frames_of(host: &Host, position: usize) -> Option<(u32, u32)> {
-    let view = host.view(position)?;
-    Some((view.target, view.held))
-}
-
 // The target of a guest, the frames that it holds, and the pages in its balloon.
 fn sizes_of(host: &Host, position: usize) -> Option<(u32, u32, u32)> {
     let view = host.view(position)?;
@@ -287,16 +281,6 @@ fn first_byte(host: &Host, name: &str, page: u32) -> Option<u8> {
 // Asserts how many steps of its trace a guest has done.
 pub(super) fn assert_steps_done(rt: &impl Abort, host: &Host, position: usize, done: u32) {
     check_eq(rt, steps_done(host, position), Some(done));
-}
-
-// Asserts the target of a guest, and the frames that it holds.
-pub(super) fn assert_frames(
-    rt: &impl Abort,
-    host: &Host,
-    position: usize,
-    frames: Option<(u32, u32)>,
-) {
-    check_eq(rt, frames_of(host, position), frames);
 }
 
 // Asserts the target of a guest that runs, the frames that it holds, and the pages in its balloon.

@@ -67,18 +67,11 @@ fn trace_of(rt: &(impl AllocGlobal + Abort), size: u32, steps: &[&str]) -> Trace
 pub(super) struct Shape {
     pub(super) size: u32,
     pub(super) min: u32,
-    pub(super) shares: u32,
-    pub(super) quantum: u32,
 }
 
 // A guest of so many pages with this minimum.
 pub(super) fn guest(size: u32, min: u32) -> Shape {
-    Shape {
-        size,
-        min,
-        shares: 1000,
-        quantum: 100,
-    }
+    Shape { size, min }
 }
 
 // Adds a guest with a trace, under a name that isn't there.
@@ -90,17 +83,15 @@ pub(super) fn add_guest(
     steps: &[&str],
 ) {
     assert!(rt; 1 <= shape.min && shape.min <= shape.size && shape.size <= 1000);
-    assert!(rt; 1 <= shape.shares && shape.shares <= 1000);
-    assert!(rt; 1 <= shape.quantum && shape.quantum <= 100);
     assert!(rt; domains.len() < 256 && domains.position(name).is_none());
     let spec = GuestSpec {
         size: shape.size,
         min: shape.min,
-        shares: shape.shares,
+        shares: 1000,
         samples: 100,
         period: 1000,
         rate: 16,
-        quantum: shape.quantum,
+        quantum: 100,
         seed: 0,
         stream: 0,
         tell: true,

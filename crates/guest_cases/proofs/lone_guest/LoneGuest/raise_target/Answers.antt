@@ -1,0 +1,7 @@
+use Rattle.vm_guest.specs.Boundary.{with_target_raised}
+use Rattle.guest_cases.proofs.LoneLemmas.{lone_changed}
+use Rattle.guest_cases.proofs.lone_guest.LoneGuest.raise_target.Goals as goal
+
+pub invariant_of-self : goal.invariant_of-self
+invariant_of-self c =
+    lone_changed c.self.inside.machine.out c.self.inside.served c.self.inside.first c.self.inside.guest c.raise_target.new.self (with_target_raised c.args.count c.self.inside.guest.guest) c.raise_target.ensures (λ nothing. nothing) c.self.invariant
