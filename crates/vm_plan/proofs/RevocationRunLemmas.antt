@@ -28,7 +28,7 @@ use Rattle.vm_plan.proofs.SumLemmas.{sum-change, total_target}
 lowered_row-none : (row : Row) → lowered_row 0 row ≡ row
 lowered_row-none row = let target : row.target - 0 ≡ row.target = omega arith in λ i. record row { target = target i }
 
-lowered_row-more : (k : ℕ) (row : Row) → revoked_row (lowered_row k row) ≡ lowered_row (k + 1) row
+pub lowered_row-more : (k : ℕ) (row : Row) → revoked_row (lowered_row k row) ≡ lowered_row (k + 1) row
 lowered_row-more k row = let target : (row.target - k) - 1 ≡ row.target - (k + 1) = omega arith in λ i. record row { target = target i }
 
 -- the rows after so many revocations from the guest of a row

@@ -1,10 +1,10 @@
--- Grants to one guest that follow each other, and revocations from one: for private contracts alone.
-use Rattle.std.specs.Prelude.{ℕ, List, ◌+◌, ◌-◌, ◌≤◌, IsSomeAnd, min, max, replicate, slice_get}
+-- Grants to one guest that follow each other, and revocations from one; in a rebalancing, who would be granted a page first: for private contracts alone.
+use Rattle.std.specs.Prelude.{ℕ, List, ◌≢◌, ◌+◌, ◌-◌, ◌≤◌, IfSome, IsSomeAnd, min, max, replicate, slice_get}
 use Rattle.vm_tax.specs.Ratio.{Ratio, Tax, IsAbove, IsBelow}
 use Rattle.vm_tax.specs.Offers.{IsLeast}
 use Rattle.vm_plan.specs.declared.state.State.{State}
 use Rattle.vm_plan.specs.declared.thresholds.Thresholds.{Thresholds}
-use Rattle.vm_plan.specs.Row.{Row, ratio_with, revocable_ratios}
+use Rattle.vm_plan.specs.Row.{Row, ratio_with, revocable_ratios, wanting_ratio}
 use Rattle.vm_plan.specs.Revocation.{rows_after}
 use Rattle.vm_plan.specs.Moves.{EachMove}
 use Rattle.vm_plan.specs.Grants.{Pool, IsNextGrant, pool_after}
@@ -59,3 +59,17 @@ IsBehind tax row position pages rival other = IsBelow (ratio_with tax row pages)
 pub record IsFall (tax : Tax) (rows : List Row) (position count : ℕ) : Type 0 where
   pub each_least : EachMove (λ before move. IsLeast (revocable_ratios tax (rows_after rows before)) move) (replicate count position)
   pub can : IsSomeAnd (slice_get rows position) (CanLose count)
+
+-- ---- rebalancing
+
+-- a guest that took so many pages
+abbrev pub raised_row : ℕ → Row → Row
+raised_row count row = record row { target = row.target + count; demand = row.demand - count }
+
+-- With such a price the guest at a position would be granted a page before another guest, or is that guest.
+abbrev pub Leads : Tax → Ratio → (position : ℕ) → Row → (other : ℕ) → Type 0
+Leads tax price position row other = position ≢ other → IfSome (wanting_ratio tax row) (λ that. IsAbove price position that other)
+
+-- .. before each other guest
+abbrev pub LeadsAll : Tax → Ratio → (position : ℕ) → List Row → Type 0
+LeadsAll tax price position rows = (other : ℕ) → IfSome (slice_get rows other) (λ row. Leads tax price position row other)
