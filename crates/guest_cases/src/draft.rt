@@ -18,6 +18,8 @@ pub struct Draft {
     seed: u64,
     stream: u64,
     tell: bool,
+    own_driver: bool,
+    page: u32,
 }
 
 impl Draft {
@@ -34,6 +36,8 @@ impl Draft {
             seed: 0,
             stream: 0,
             tell: true,
+            own_driver: true,
+            page: 4,
         };
         for pair in text.split(", ") {
             let Some((name, word)) = pair.split_once(' ') else {
@@ -53,6 +57,7 @@ impl Draft {
             "period" => self.period = number(word)?,
             "rate" => self.rate = number(word)?,
             "quantum" => self.quantum = number(word)?,
+            "page" => self.page = number(word)?,
             _ => return self.set_other(name, Value::parse(word)?),
         }
         Ok(())
@@ -64,6 +69,8 @@ impl Draft {
             ("stream", Value::Number(stream)) => self.stream = stream,
             ("tell", Value::Yes) => self.tell = true,
             ("tell", Value::No) => self.tell = false,
+            ("own_driver", Value::Yes) => self.own_driver = true,
+            ("own_driver", Value::No) => self.own_driver = false,
             _ => return Err(Fault::Unknown),
         }
         Ok(())
@@ -82,6 +89,8 @@ impl Draft {
             seed,
             stream,
             tell,
+            own_driver,
+            page,
         } = self;
         if min < 1 || size < min || 262_144 < size || shares < 1 || 1_000_000 < shares {
             return Err(Fault::NotAllowed);
@@ -90,6 +99,9 @@ impl Draft {
             return Err(Fault::NotAllowed);
         }
         if rate < 1 || 256 < rate || quantum < 1 || 65536 < quantum {
+            return Err(Fault::NotAllowed);
+        }
+        if page < 4 || 1_048_576 < page {
             return Err(Fault::NotAllowed);
         }
         let trace = trace_of(alloc, size, steps)?;
@@ -104,6 +116,8 @@ impl Draft {
             seed,
             stream,
             tell,
+            own_driver,
+            page,
             trace,
         })
     }

@@ -63,6 +63,7 @@ impl Facts {
             done: 0,
             stalled: None,
             blocked: false,
+            own_driver: true,
         })
     }
 

@@ -19,7 +19,7 @@ mod value;
 use crate::script::try_script;
 use std::io;
 
-const NAMES: [&str; 7] = [
+const NAMES: [&str; 8] = [
     "memory",
     "balloon",
     "boundary",
@@ -27,6 +27,7 @@ const NAMES: [&str; 7] = [
     "sampling",
     "work",
     "limits",
+    "version-3",
 ];
 
 fn main(rt: HostRuntime) -> io::Result<()> {

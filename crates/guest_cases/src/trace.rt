@@ -4,10 +4,10 @@ ghost use Rattle.vm_trace.specs.Limits.{IsStep, IsWithin};
 
 use crate::fault::Fault;
 use std::alloc::Global;
-use vm_trace::{Trace, parse_step_within};
+use vm_trace::{PushError, StepLimits, Trace};
 
-// Adds a step of a guest of this size to a trace.
-fn add_step(trace: &mut Trace, size: u32, text: &str) -> Result<(), Fault>
+// Adds the steps of a text of version 3 for a guest of this size to a trace.
+fn add_steps(trace: &mut Trace, size: u32, text: &str) -> Result<(), Fault>
     requires some_pages { 1 ≤ size }
     requires few_pages { size ≤ 262144 }
     requires within { All (IsWithin size) trace.old }
@@ -15,14 +15,14 @@ fn add_step(trace: &mut Trace, size: u32, text: &str) -> Result<(), Fault>
     ensures within { OnOk result (All (IsWithin size) trace.new) }
     ensures bounded { OnOk result (All IsStep trace.new) }
 {
-    let Ok(step) = parse_step_within(text, size) else {
-        return Err(Fault::Unknown);
+    let limits = StepLimits {
+        pages: size,
+        version_3: true,
     };
-    // To look at a step's action shows its limits.
-    let _ = step.action();
-    match trace.push(step) {
+    match trace.push_text(text, limits, size) {
         Ok(()) => Ok(()),
-        Err(_) => Err(Fault::Memory),
+        Err(PushError::Fault(_)) => Err(Fault::Unknown),
+        Err(PushError::Memory) => Err(Fault::Memory),
     }
 }
 
@@ -39,7 +39,7 @@ pub fn trace_of(alloc: Global, size: u32, steps: &str) -> Result<Trace, Fault>
         return Ok(trace);
     }
     for step in steps.split(", ") {
-        add_step(&mut trace, size, step)?;
+        add_steps(&mut trace, size, step)?;
     }
     if trace.len() > 1000 {
         return Err(Fault::NotAllowed);

@@ -10,8 +10,8 @@ use std::rt::Files;
 use vm_config::Config;
 use vm_sim::read_config;
 use vm_tally::{
-    Combination, guest_names, guest_records_text, guests_header_text, header_text, record_text,
-    run_alone, run_guests_alone,
+    Combination, Rebalancing, guest_names, guest_records_text, guests_header_text, header_text,
+    record_text, run_alone, run_guests_alone,
 };
 
 /// Refuses a text that is not this line with the end of one.
@@ -74,7 +74,10 @@ fn record<'a>(entry: &Entry<'a>) -> &'a str {
 fn told(alloc: Global, mut config: Config, values: Combination) -> Result<(String, Config)> {
     values.apply(&mut config);
     match run_alone(alloc, config) {
-        Ok((summary, config)) => Ok((record_text(alloc, &values, &summary)?, config)),
+        Ok((summary, config)) => {
+            let text = record_text(alloc, Rebalancing::Own, &values, &summary)?;
+            Ok((text, config))
+        }
         Err(_) => bail!("no run"),
     }
 }
@@ -117,7 +120,7 @@ fn check_guests(alloc: Global, block: &[Entry], mut config: Config) -> Result<()
     let Ok((guests, _)) = run_guests_alone(alloc, config) else {
         bail!("no run");
     };
-    let text = guest_records_text(alloc, &values, &names, &guests)?;
+    let text = guest_records_text(alloc, Rebalancing::Own, &values, &names, &guests)?;
     let records = wanted_guests(alloc, block)?;
     ensure!(text.as_str() == records.as_str(), "{text:?}");
     Ok(())
@@ -127,8 +130,10 @@ fn check_guests(alloc: Global, block: &[Entry], mut config: Config) -> Result<()
 fn try_headers(rt: &impl Print, block: &[Entry], tally: &mut Tally) -> Result<()> {
     for entry in block {
         let found = match entry.key {
-            "runs" => header_text(),
-            _ => guests_header_text(),
+            "runs" => header_text(Rebalancing::Own),
+            "guests" => guests_header_text(Rebalancing::Own),
+            "swept-runs" => header_text(Rebalancing::Swept),
+            _ => guests_header_text(Rebalancing::Swept),
         };
         tally.note(rt, entry.number, check_line(found, entry.value))?;
     }
@@ -142,7 +147,7 @@ fn try_cases(
     tally: &mut Tally,
 ) -> Result<()> {
     if !block.iter().any(|entry| entry.key == "input") {
-        check_keys(block, &["runs", "guests"])?;
+        check_keys(block, &["runs", "guests", "swept-runs", "swept-guests"])?;
         return try_headers(rt, block, tally);
     }
     check_keys(block, &["input", "run", "on", "guest"])?;

@@ -18,6 +18,7 @@ pub(crate) enum Kind {
     StepCharacters,
     Traces,
     Sizes,
+    SizesPages,
     CommandLines,
     Lists,
     ListPlaces,
@@ -36,6 +37,7 @@ pub(crate) enum Kind {
     PlanStretches,
     PlanLeast,
     PlanPaging,
+    Rebalancing,
     Thresholds,
     States,
     Prices,
@@ -43,7 +45,7 @@ pub(crate) enum Kind {
 
 impl Kind {
     /// All of them, in the order in which they are tried.
-    pub(crate) const ALL: [Kind; 33] = [
+    pub(crate) const ALL: [Kind; 35] = [
         Kind::ConfigKeys,
         Kind::ConfigRanges,
         Kind::ConfigLengths,
@@ -56,6 +58,7 @@ impl Kind {
         Kind::StepCharacters,
         Kind::Traces,
         Kind::Sizes,
+        Kind::SizesPages,
         Kind::CommandLines,
         Kind::Lists,
         Kind::ListPlaces,
@@ -74,6 +77,7 @@ impl Kind {
         Kind::PlanStretches,
         Kind::PlanLeast,
         Kind::PlanPaging,
+        Kind::Rebalancing,
         Kind::Thresholds,
         Kind::States,
         Kind::Prices,
@@ -94,6 +98,7 @@ impl Kind {
             Kind::StepCharacters => "step-characters",
             Kind::Traces => "traces",
             Kind::Sizes => "sizes",
+            Kind::SizesPages => "sizes-pages",
             Kind::CommandLines => "command-lines",
             Kind::Lists => "lists",
             Kind::ListPlaces => "list-places",
@@ -112,6 +117,7 @@ impl Kind {
             Kind::PlanStretches => "plan-stretches",
             Kind::PlanLeast => "plan-least",
             Kind::PlanPaging => "plan-paging",
+            Kind::Rebalancing => "rebalancing",
             Kind::Thresholds => "thresholds",
             Kind::States => "states",
             Kind::Prices => "prices",
@@ -133,6 +139,7 @@ impl Kind {
             Kind::StepCharacters => trace::characters::outcome(alloc, line),
             Kind::Traces => trace::orders::outcome(alloc, line),
             Kind::Sizes => commands::size(alloc, line),
+            Kind::SizesPages => commands::size_in_pages(alloc, line),
             Kind::CommandLines => commands::line(alloc, line),
             Kind::Lists => lists::list(alloc, line),
             Kind::ListPlaces => lists::place(alloc, line),
@@ -151,6 +158,7 @@ impl Kind {
             Kind::PlanStretches => policy::plans::stretches(alloc, line),
             Kind::PlanLeast => policy::least::outcome(alloc, line),
             Kind::PlanPaging => policy::paging::outcome(alloc, line),
+            Kind::Rebalancing => policy::rebalancing::outcome(alloc, line),
             Kind::Thresholds => policy::thresholds::machine(alloc, line),
             Kind::States => policy::thresholds::state(alloc, line),
             Kind::Prices => policy::prices::outcome(alloc, line),

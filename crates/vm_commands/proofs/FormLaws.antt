@@ -23,22 +23,22 @@ domain_from domain h = not_true (starts_with nat_eq domain (codes "-")) h
 
 -- ---- words of a form are read as that form
 
-minimum_reads : (words : List (List ℕ)) (domain size : List ℕ) (k : ℕ) → is_domain domain ≡ true → k < 4 → slice_index_or (minimum_words domain size) k words ≡ words → command_of_words words ≡ set_minimum domain size
+minimum_reads : (page : ℕ) (words : List (List ℕ)) (domain size : List ℕ) (k : ℕ) → is_domain domain ≡ true → k < 4 → slice_index_or (minimum_words domain size) k words ≡ words → command_of_words page words ≡ set_minimum page domain size
 unfolding command_of_words sized_command tune_joined joined_size tune_command
-minimum_reads words domain size zero named below is = ap command_of_words (sym is) ∙ rw named refl
-minimum_reads words domain size (suc zero) named below is = ap command_of_words (sym is) ∙ rw named refl
-minimum_reads words domain size (suc (suc zero)) named below is = ap command_of_words (sym is) ∙ rw named refl
-minimum_reads words domain size (suc (suc (suc zero))) named below is = ap command_of_words (sym is) ∙ rw named refl
-minimum_reads words domain size (suc (suc (suc (suc k)))) named below is = absurd (omega arith)
+minimum_reads page words domain size zero named below is = ap (command_of_words page) (sym is) ∙ rw named refl
+minimum_reads page words domain size (suc zero) named below is = ap (command_of_words page) (sym is) ∙ rw named refl
+minimum_reads page words domain size (suc (suc zero)) named below is = ap (command_of_words page) (sym is) ∙ rw named refl
+minimum_reads page words domain size (suc (suc (suc zero))) named below is = ap (command_of_words page) (sym is) ∙ rw named refl
+minimum_reads page words domain size (suc (suc (suc (suc k)))) named below is = absurd (omega arith)
 
-pub form_reads : (words : List (List ℕ)) (form : Form) → HasForm words form → command_of_words words ≡ meaning_of form
+pub form_reads : (page : ℕ) (words : List (List ℕ)) (form : Form) → HasForm words form → command_of_words page words ≡ meaning_of page form
 unfolding command_of_words domain_command sized_command
-form_reads words (FormStart domain) h = ap command_of_words h.1 ∙ rw (domain_reads domain h.0) refl
-form_reads words (FormDestroy domain) h = ap command_of_words h.1 ∙ rw (domain_reads domain h.0) refl
-form_reads words (FormMemory domain size) h = ap command_of_words h.1 ∙ rw (domain_reads domain h.0) refl
-form_reads words (FormMinimum domain size) h = minimum_reads words domain size h.1.0 (domain_reads domain h.0) h.1.1 h.1.2
-form_reads words (FormShares domain number) h = ap command_of_words h.1 ∙ rw (domain_reads domain h.0) refl
-form_reads words (FormStatistics domain) h = ap command_of_words h.1 ∙ rw (domain_reads domain h.0) refl
+form_reads page words (FormStart domain) h = ap (command_of_words page) h.1 ∙ rw (domain_reads domain h.0) refl
+form_reads page words (FormDestroy domain) h = ap (command_of_words page) h.1 ∙ rw (domain_reads domain h.0) refl
+form_reads page words (FormMemory domain size) h = ap (command_of_words page) h.1 ∙ rw (domain_reads domain h.0) refl
+form_reads page words (FormMinimum domain size) h = minimum_reads page words domain size h.1.0 (domain_reads domain h.0) h.1.1 h.1.2
+form_reads page words (FormShares domain number) h = ap (command_of_words page) h.1 ∙ rw (domain_reads domain h.0) refl
+form_reads page words (FormStatistics domain) h = ap (command_of_words page) h.1 ∙ rw (domain_reads domain h.0) refl
 
 -- ---- words are read as no command, or they have a form
 
@@ -76,9 +76,9 @@ minimum_form : (words : List (List ℕ)) (domain size : List ℕ) (k : ℕ) → 
 minimum_form words domain size k named below is = (FormMinimum domain size, (domain_from domain named, (k, ltb-true k 4 below, is)))
 
 -- a domain and an option, in either order
-tuned : (words : List (List ℕ)) (kind domain option : List ℕ) → kind ≡ codes "memtune" → (words ≡ kind ∷ domain ∷ option ∷ []) ⊎ (words ≡ kind ∷ option ∷ domain ∷ []) → HasSomeForm words ⊎ (tune_joined domain option ≡ Err Bad)
+tuned : (page : ℕ) (words : List (List ℕ)) (kind domain option : List ℕ) → kind ≡ codes "memtune" → (words ≡ kind ∷ domain ∷ option ∷ []) ⊎ (words ≡ kind ∷ option ∷ domain ∷ []) → HasSomeForm words ⊎ (tune_joined page domain option ≡ Err Bad)
 unfolding tune_joined
-tuned words kind domain option memtune order = elim (decided (is_domain domain)) [
+tuned page words kind domain option memtune order = elim (decided (is_domain domain)) [
   | inr dashed ↦ inr (rw dashed refl)
   | inl named ↦ elim (joined_from option) [
     | inr none ↦ inr (rw (named, none) refl)
@@ -89,12 +89,12 @@ tuned words kind domain option memtune order = elim (decided (is_domain domain))
   ]
 ]
 
-two_arguments : (kind a b : List ℕ) → HasSomeForm (kind ∷ a ∷ b ∷ []) ⊎ (sized_command kind a b ≡ Err Bad)
+two_arguments : (page : ℕ) (kind a b : List ℕ) → HasSomeForm (kind ∷ a ∷ b ∷ []) ⊎ (sized_command page kind a b ≡ Err Bad)
 unfolding sized_command
-two_arguments kind a b = elim (decided (bytes_eq kind (codes "memtune"))) [
+two_arguments page kind a b = elim (decided (bytes_eq kind (codes "memtune"))) [
   | inl tune ↦ elim (decided (is_domain a)) [
-    | inl named ↦ rw (tune, named) (tuned (kind ∷ a ∷ b ∷ []) kind a b (same_text kind (codes "memtune") tune) (inl refl))
-    | inr dashed ↦ rw (tune, dashed) (tuned (kind ∷ a ∷ b ∷ []) kind b a (same_text kind (codes "memtune") tune) (inr refl))
+    | inl named ↦ rw (tune, named) (tuned page (kind ∷ a ∷ b ∷ []) kind a b (same_text kind (codes "memtune") tune) (inl refl))
+    | inr dashed ↦ rw (tune, dashed) (tuned page (kind ∷ a ∷ b ∷ []) kind b a (same_text kind (codes "memtune") tune) (inr refl))
   ]
   | inr no_tune ↦ elim (decided (is_domain a)) [
     | inr dashed ↦ inr (rw (no_tune, dashed) refl)
@@ -108,9 +108,9 @@ two_arguments kind a b = elim (decided (bytes_eq kind (codes "memtune"))) [
   ]
 ]
 
-three_arguments : (kind a b c : List ℕ) → HasSomeForm (kind ∷ a ∷ b ∷ c ∷ []) ⊎ (tune_command kind a b c ≡ Err Bad)
+three_arguments : (page : ℕ) (kind a b c : List ℕ) → HasSomeForm (kind ∷ a ∷ b ∷ c ∷ []) ⊎ (tune_command page kind a b c ≡ Err Bad)
 unfolding tune_command
-three_arguments kind a b c = elim (decided (bytes_eq kind (codes "memtune"))) [
+three_arguments page kind a b c = elim (decided (bytes_eq kind (codes "memtune"))) [
   | inr no_tune ↦ inr (rw no_tune refl)
   | inl tune ↦ elim (decided (is_domain a && bytes_eq b (codes "--min-guarantee"))) [
     | inl first ↦
@@ -129,11 +129,11 @@ three_arguments kind a b c = elim (decided (bytes_eq kind (codes "memtune"))) [
   ]
 ]
 
-pub form_or_bad : (words : List (List ℕ)) → HasSomeForm words ⊎ (command_of_words words ≡ Err Bad)
+pub form_or_bad : (page : ℕ) (words : List (List ℕ)) → HasSomeForm words ⊎ (command_of_words page words ≡ Err Bad)
 unfolding command_of_words
-form_or_bad [] = inr refl
-form_or_bad (kind ∷ []) = inr refl
-form_or_bad (kind ∷ a ∷ []) = one_domain kind a
-form_or_bad (kind ∷ a ∷ b ∷ []) = two_arguments kind a b
-form_or_bad (kind ∷ a ∷ b ∷ c ∷ []) = three_arguments kind a b c
-form_or_bad (kind ∷ a ∷ b ∷ c ∷ d ∷ words) = inr refl
+form_or_bad page [] = inr refl
+form_or_bad page (kind ∷ []) = inr refl
+form_or_bad page (kind ∷ a ∷ []) = one_domain kind a
+form_or_bad page (kind ∷ a ∷ b ∷ []) = two_arguments page kind a b
+form_or_bad page (kind ∷ a ∷ b ∷ c ∷ []) = three_arguments page kind a b c
+form_or_bad page (kind ∷ a ∷ b ∷ c ∷ d ∷ words) = inr refl

@@ -84,29 +84,29 @@ gathers_more line words count s t w g k full room =
     }
 
 -- more words than any command has
-many_words : (ws : List (List ℕ)) → 5 ≤ length ws → command_of_words ws ≡ Err Bad
+many_words : (page : ℕ) (ws : List (List ℕ)) → 5 ≤ length ws → command_of_words page ws ≡ Err Bad
 unfolding command_of_words
-many_words [] h = absurd (omega arith)
-many_words (a ∷ []) h = absurd (omega arith)
-many_words (a ∷ b ∷ []) h = absurd (omega arith)
-many_words (a ∷ b ∷ c ∷ []) h = absurd (omega arith)
-many_words (a ∷ b ∷ c ∷ d ∷ []) h = absurd (omega arith)
-many_words (a ∷ b ∷ c ∷ d ∷ e ∷ ws) h = refl
+many_words page [] h = absurd (omega arith)
+many_words page (a ∷ []) h = absurd (omega arith)
+many_words page (a ∷ b ∷ []) h = absurd (omega arith)
+many_words page (a ∷ b ∷ c ∷ []) h = absurd (omega arith)
+many_words page (a ∷ b ∷ c ∷ d ∷ []) h = absurd (omega arith)
+many_words page (a ∷ b ∷ c ∷ d ∷ e ∷ ws) h = refl
 
 -- a word more than any command has
-pub gathers_fault : (line : List ℕ) (words : List (Bor (List ℕ))) (s t : Split ℕ) (w : Bor (List ℕ)) → Gathers line words 4 s → steps s (Some w) t → (length w.now == 0) ≡ false → command_of line ≡ Err Bad
+pub gathers_fault : (page : ℕ) (line : List ℕ) (words : List (Bor (List ℕ))) (s t : Split ℕ) (w : Bor (List ℕ)) → Gathers line words 4 s → steps s (Some w) t → (length w.now == 0) ≡ false → command_of page line ≡ Err Bad
 unfolding command_of
-gathers_fault line words s t w g k full =
+gathers_fault page line words s t w g k full =
     let part = part_next s t w g.left g.yields k in
     let all : words_of line ≡ texts (take 4 words) ++ w.now ∷ nonempty part.0 =
     sym g.whole ∙ ap (λ l. texts (take 4 words) ++ l) (ap nonempty part.1 ∙ nonempty-word w.now part.0 full) in
     let four : length (texts (take 4 words)) ≡ 4 = length-map {B = List ℕ} (take 4 words) (λ w. w.now) ∙ length-take-le 4 words (let room = g.room in omega arith) in
     let len = ap length all ∙ length-append (texts (take 4 words)) (w.now ∷ nonempty part.0) in
-    many_words (words_of line) (omega (arith, len, four))
+    many_words page (words_of line) (omega (arith, len, four))
 
 -- all words are gathered
-pub gathers_all : (line : List ℕ) (words : List (Bor (List ℕ))) (count : ℕ) (s t : Split ℕ) → Gathers line words count s → steps s None t → command_of line ≡ command_of_words (texts (take count words))
+pub gathers_all : (page : ℕ) (line : List ℕ) (words : List (Bor (List ℕ))) (count : ℕ) (s t : Split ℕ) → Gathers line words count s → steps s None t → command_of page line ≡ command_of_words page (texts (take count words))
 unfolding command_of
-gathers_all line words count s t g k =
+gathers_all page line words count s t g k =
     let end = parts_end s t g.left g.yields k in
-    ap command_of_words (sym (sym (append-nil _) ∙ ap (λ l. texts (take count words) ++ l) (sym (ap nonempty end)) ∙ g.whole))
+    ap (command_of_words page) (sym (sym (append-nil _) ∙ ap (λ l. texts (take count words) ++ l) (sym (ap nonempty end)) ∙ g.whole))

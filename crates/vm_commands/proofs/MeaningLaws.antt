@@ -18,13 +18,13 @@ use Rattle.vm_commands.proofs.Choices.{chosen, some_chosen, some_is}
 use Rattle.vm_commands.proofs.SizeLaws.{IsSize-from_read, pages_of_size-spelled}
 
 -- what is read of a form
-abbrev pub meaning_of : Form → Result Command LineFault
-meaning_of (FormStart domain) = Ok (Start domain)
-meaning_of (FormDestroy domain) = Ok (Destroy domain)
-meaning_of (FormMemory domain size) = set_memory domain size
-meaning_of (FormMinimum domain size) = set_minimum domain size
-meaning_of (FormShares domain number) = set_shares domain number
-meaning_of (FormStatistics domain) = Ok (ShowStatistics domain)
+abbrev pub meaning_of : ℕ → Form → Result Command LineFault
+meaning_of page (FormStart domain) = Ok (Start domain)
+meaning_of page (FormDestroy domain) = Ok (Destroy domain)
+meaning_of page (FormMemory domain size) = set_memory page domain size
+meaning_of page (FormMinimum domain size) = set_minimum page domain size
+meaning_of page (FormShares domain number) = set_shares domain number
+meaning_of page (FormStatistics domain) = Ok (ShowStatistics domain)
 
 -- the numbers of shares
 IsShares-from_read : (word : List ℕ) (shares : ℕ) → shares_of word ≡ Some shares → IsShares word shares
@@ -65,16 +65,16 @@ minimum_cases (Some p) pages h = elim (chosen (p == 0) None (Some p) (Some pages
 ]
 minimum_cases None pages h = absurd cc
 
-minimum_from : (size : List ℕ) (pages : ℕ) → minimum_of size ≡ Some pages → IsSize size pages × (1 ≤ pages)
+minimum_from : (page : ℕ) (size : List ℕ) (pages : ℕ) → 1 ≤ page → minimum_of page size ≡ Some pages → IsSize page size pages × (1 ≤ pages)
 unfolding minimum_of
-minimum_from size pages h =
-    let parts = minimum_cases (pages_of_size size) pages h in
-    (IsSize-from_read size pages parts.0, parts.1)
+minimum_from page size pages some_page h =
+    let parts = minimum_cases (pages_of_size page size) pages h in
+    (IsSize-from_read page size pages some_page parts.0, parts.1)
 
-minimum_of-spelled : (size : List ℕ) (pages : ℕ) → IsSize size pages → 1 ≤ pages → minimum_of size ≡ Some pages
+minimum_of-spelled : (page : ℕ) (size : List ℕ) (pages : ℕ) → 1 ≤ page → IsSize page size pages → 1 ≤ pages → minimum_of page size ≡ Some pages
 unfolding minimum_of
-minimum_of-spelled size pages s some =
-    rw (pages_of_size-spelled size pages s, ne_eqb pages 0 (λ none. omega (arith, some))) refl
+minimum_of-spelled page size pages some_page s some =
+    rw (pages_of_size-spelled page size pages some_page s, ne_eqb pages 0 (λ none. omega (arith, some))) refl
 
 -- a command with a number that was read
 numbered : (o : Option ℕ) (f : ℕ → Command) → ((n : ℕ) × (o ≡ Some n)) ⊎ (option_map_or (λ n. Ok (f n)) o (Err Size) ≡ Err Size)
@@ -82,30 +82,30 @@ numbered (Some n) f = inl (n, refl)
 numbered None f = inr refl
 
 -- a form is read as what it asks for, or its SIZE or N can't be read
-pub asks_or_size : (form : Form) → ((command : Command) × AsksFor form command) ⊎ (meaning_of form ≡ Err Size)
+pub asks_or_size : (page : ℕ) (form : Form) → 1 ≤ page → ((command : Command) × AsksFor page form command) ⊎ (meaning_of page form ≡ Err Size)
 unfolding set_memory set_minimum set_shares
-asks_or_size (FormStart domain) = inl (Start domain, refl)
-asks_or_size (FormDestroy domain) = inl (Destroy domain, refl)
-asks_or_size (FormMemory domain size) = elim (numbered (pages_of_size size) (SetMemory domain)) [
-  | inl read ↦ inl (SetMemory domain read.0, (read.0, IsSize-from_read size read.0 read.1, refl))
+asks_or_size page (FormStart domain) some_page = inl (Start domain, refl)
+asks_or_size page (FormDestroy domain) some_page = inl (Destroy domain, refl)
+asks_or_size page (FormMemory domain size) some_page = elim (numbered (pages_of_size page size) (SetMemory domain)) [
+  | inl read ↦ inl (SetMemory domain read.0, (read.0, IsSize-from_read page size read.0 some_page read.1, refl))
   | inr none ↦ inr none
 ]
-asks_or_size (FormMinimum domain size) = elim (numbered (minimum_of size) (SetMinimum domain)) [
-  | inl read ↦ let minimum = minimum_from size read.0 read.1 in inl (SetMinimum domain read.0, (read.0, minimum.0, minimum.1, refl))
+asks_or_size page (FormMinimum domain size) some_page = elim (numbered (minimum_of page size) (SetMinimum domain)) [
+  | inl read ↦ let minimum = minimum_from page size read.0 some_page read.1 in inl (SetMinimum domain read.0, (read.0, minimum.0, minimum.1, refl))
   | inr none ↦ inr none
 ]
-asks_or_size (FormShares domain number) = elim (numbered (shares_of number) (SetShares domain)) [
+asks_or_size page (FormShares domain number) some_page = elim (numbered (shares_of number) (SetShares domain)) [
   | inl read ↦ inl (SetShares domain read.0, (read.0, IsShares-from_read number read.0 read.1, refl))
   | inr none ↦ inr none
 ]
-asks_or_size (FormStatistics domain) = inl (ShowStatistics domain, refl)
+asks_or_size page (FormStatistics domain) some_page = inl (ShowStatistics domain, refl)
 
 -- what a form asks for is read
-pub meaning_of-asks : (form : Form) (command : Command) → AsksFor form command → meaning_of form ≡ Ok command
+pub meaning_of-asks : (page : ℕ) (form : Form) (command : Command) → 1 ≤ page → AsksFor page form command → meaning_of page form ≡ Ok command
 unfolding set_memory set_minimum set_shares
-meaning_of-asks (FormStart domain) command a = ap Ok (sym a)
-meaning_of-asks (FormDestroy domain) command a = ap Ok (sym a)
-meaning_of-asks (FormMemory domain size) command a = rw (pages_of_size-spelled size a.0 a.1) (ap Ok (sym a.2))
-meaning_of-asks (FormMinimum domain size) command a = rw (minimum_of-spelled size a.0 a.1 a.2) (ap Ok (sym a.3))
-meaning_of-asks (FormShares domain number) command a = rw (shares_of-spelled number a.0 a.1) (ap Ok (sym a.2))
-meaning_of-asks (FormStatistics domain) command a = ap Ok (sym a)
+meaning_of-asks page (FormStart domain) command some_page a = ap Ok (sym a)
+meaning_of-asks page (FormDestroy domain) command some_page a = ap Ok (sym a)
+meaning_of-asks page (FormMemory domain size) command some_page a = rw (pages_of_size-spelled page size a.0 some_page a.1) (ap Ok (sym a.2))
+meaning_of-asks page (FormMinimum domain size) command some_page a = rw (minimum_of-spelled page size a.0 some_page a.1 a.2) (ap Ok (sym a.3))
+meaning_of-asks page (FormShares domain number) command some_page a = rw (shares_of-spelled number a.0 a.1) (ap Ok (sym a.2))
+meaning_of-asks page (FormStatistics domain) command some_page a = ap Ok (sym a)

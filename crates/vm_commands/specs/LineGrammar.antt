@@ -67,17 +67,17 @@ pub record IsShares (word : List ℕ) (shares : ℕ) : Type 0 where
   pub least : 1 ≤ shares
   pub most : shares ≤ 1000000
 
--- the command that a form asks for, where its SIZE or N can be read; a minimum is of at least one page
-abbrev pub AsksFor : Form → Command → Type 0
-AsksFor (FormStart domain) command = command ≡ Start domain
-AsksFor (FormDestroy domain) command = command ≡ Destroy domain
-AsksFor (FormMemory domain size) command =
-    (pages : ℕ) × IsSize size pages × (command ≡ SetMemory domain pages)
-AsksFor (FormMinimum domain size) command =
-    (pages : ℕ) × IsSize size pages × (1 ≤ pages) × (command ≡ SetMinimum domain pages)
-AsksFor (FormShares domain number) command =
+-- the command that a form asks for, where its SIZE or N can be read, a SIZE in pages of `page` KiB; a minimum is at least one page
+abbrev pub AsksFor : ℕ → Form → Command → Type 0
+AsksFor page (FormStart domain) command = command ≡ Start domain
+AsksFor page (FormDestroy domain) command = command ≡ Destroy domain
+AsksFor page (FormMemory domain size) command =
+    (pages : ℕ) × IsSize page size pages × (command ≡ SetMemory domain pages)
+AsksFor page (FormMinimum domain size) command =
+    (pages : ℕ) × IsSize page size pages × (1 ≤ pages) × (command ≡ SetMinimum domain pages)
+AsksFor page (FormShares domain number) command =
     (shares : ℕ) × IsShares number shares × (command ≡ SetShares domain shares)
-AsksFor (FormStatistics domain) command = command ≡ ShowStatistics domain
+AsksFor page (FormStatistics domain) command = command ≡ ShowStatistics domain
 
 -- the words of the line have this form
 pub record IsOfForm (line : List ℕ) (form : Form) : Type 0 where
@@ -85,17 +85,17 @@ pub record IsOfForm (line : List ℕ) (form : Form) : Type 0 where
   pub found : HasWords line words
   pub fit : HasForm words form
 
--- the line is this command
-pub record IsLine (line : List ℕ) (command : Command) : Type 0 where
+-- the line is this command, on a machine whose pages are of `page` KiB
+pub record IsLine (page : ℕ) (line : List ℕ) (command : Command) : Type 0 where
   pub form : Form
   pub fits : IsOfForm line form
-  pub asks : AsksFor form command
+  pub asks : AsksFor page form command
 
 -- the line has a form, and is no command: its SIZE or N can't be read, or is out of range
-pub record IsUnreadable (line : List ℕ) : Type 0 where
+pub record IsUnreadable (page : ℕ) (line : List ℕ) : Type 0 where
   pub form : Form
   pub fits : IsOfForm line form
-  pub unread : (command : Command) → ¬ AsksFor form command
+  pub unread : (command : Command) → ¬ AsksFor page form command
 
 -- the line has no form
 abbrev pub HasNoForm : List ℕ → Type 0

@@ -1,4 +1,4 @@
--- The command that a line is, or its fault, as a function; LineGrammar says the same as facts.
+-- The command that a line is, or its fault, as a function; LineGrammar says the same as facts. A page is of `page` KiB.
 use Rattle.std.specs.Prelude.{ℕ, ◌==◌, ◌&&◌, ◌≡◌, ◌⊎◌, Bool, not, nat_eq, nat_le, if◌then◌else◌, List, [], ◌∷◌, length, drop, codes, bytes_eq, filter, Option, Some, None, Result, Ok, Err, IsOk, MatchResult}
 use Rattle.std.specs.Option.{option_map_or}
 use Rattle.std.specs.List.{slice_split, starts_with, list_all}
@@ -21,16 +21,16 @@ abbrev pub is_domain : List ℕ → Bool
 is_domain word = not (starts_with nat_eq word (codes "-"))
 
 -- setmem D SIZE
-unfoldable pub set_memory : List ℕ → List ℕ → Result Command LineFault
-set_memory domain size = option_map_or (λ pages. Ok (SetMemory domain pages)) (pages_of_size size) (Err Size)
+unfoldable pub set_memory : ℕ → List ℕ → List ℕ → Result Command LineFault
+set_memory page domain size = option_map_or (λ pages. Ok (SetMemory domain pages)) (pages_of_size page size) (Err Size)
 
 -- the pages of a minimum, at least one
-unfoldable pub minimum_of : List ℕ → Option ℕ
-minimum_of size = option_map_or (λ pages. if pages == 0 then None else Some pages) (pages_of_size size) None
+unfoldable pub minimum_of : ℕ → List ℕ → Option ℕ
+minimum_of page size = option_map_or (λ pages. if pages == 0 then None else Some pages) (pages_of_size page size) None
 
 -- memtune D with a minimum of SIZE
-unfoldable pub set_minimum : List ℕ → List ℕ → Result Command LineFault
-set_minimum domain size = option_map_or (λ pages. Ok (SetMinimum domain pages)) (minimum_of size) (Err Size)
+unfoldable pub set_minimum : ℕ → List ℕ → List ℕ → Result Command LineFault
+set_minimum page domain size = option_map_or (λ pages. Ok (SetMinimum domain pages)) (minimum_of page size) (Err Size)
 
 -- 1 to 7 digits, a number from 1 to 1000000
 unfoldable pub shares_of : List ℕ → Option ℕ
@@ -57,38 +57,38 @@ unfoldable pub joined_size : List ℕ → Option (List ℕ)
 joined_size word = if starts_with nat_eq word (codes "--min-guarantee=") then Some (drop 16 word) else None
 
 -- memtune D --min-guarantee=SIZE
-unfoldable pub tune_joined : List ℕ → List ℕ → Result Command LineFault
-tune_joined domain option =
-    if is_domain domain then option_map_or (set_minimum domain) (joined_size option) (Err Bad) else Err Bad
+unfoldable pub tune_joined : ℕ → List ℕ → List ℕ → Result Command LineFault
+tune_joined page domain option =
+    if is_domain domain then option_map_or (set_minimum page domain) (joined_size option) (Err Bad) else Err Bad
 
 -- K D SIZE, where K is setmem or memshares, or memtune with a joined option before or after D
-unfoldable pub sized_command : List ℕ → List ℕ → List ℕ → Result Command LineFault
-sized_command kind a b =
-    if bytes_eq kind (codes "memtune") then (if is_domain a then tune_joined a b else tune_joined b a)
+unfoldable pub sized_command : ℕ → List ℕ → List ℕ → List ℕ → Result Command LineFault
+sized_command page kind a b =
+    if bytes_eq kind (codes "memtune") then (if is_domain a then tune_joined page a b else tune_joined page b a)
     else if not (is_domain a) then Err Bad
-    else if bytes_eq kind (codes "setmem") then set_memory a b
+    else if bytes_eq kind (codes "setmem") then set_memory page a b
     else if bytes_eq kind (codes "memshares") then set_shares a b
     else Err Bad
 
 -- memtune D --min-guarantee SIZE, or memtune --min-guarantee SIZE D
-unfoldable pub tune_command : List ℕ → List ℕ → List ℕ → List ℕ → Result Command LineFault
-tune_command kind a b c =
+unfoldable pub tune_command : ℕ → List ℕ → List ℕ → List ℕ → List ℕ → Result Command LineFault
+tune_command page kind a b c =
     if not (bytes_eq kind (codes "memtune")) then Err Bad
-    else if is_domain a && bytes_eq b (codes "--min-guarantee") then set_minimum a c
-    else if bytes_eq a (codes "--min-guarantee") && is_domain c then set_minimum c b
+    else if is_domain a && bytes_eq b (codes "--min-guarantee") then set_minimum page a c
+    else if bytes_eq a (codes "--min-guarantee") && is_domain c then set_minimum page c b
     else Err Bad
 
 -- the command of some words, by their number
-unfoldable pub command_of_words : List (List ℕ) → Result Command LineFault
-command_of_words (kind ∷ a ∷ []) = domain_command kind a
-command_of_words (kind ∷ a ∷ b ∷ []) = sized_command kind a b
-command_of_words (kind ∷ a ∷ b ∷ c ∷ []) = tune_command kind a b c
-command_of_words _ = Err Bad
+unfoldable pub command_of_words : ℕ → List (List ℕ) → Result Command LineFault
+command_of_words page (kind ∷ a ∷ []) = domain_command kind a
+command_of_words page (kind ∷ a ∷ b ∷ []) = sized_command page kind a b
+command_of_words page (kind ∷ a ∷ b ∷ c ∷ []) = tune_command page kind a b c
+command_of_words _ _ = Err Bad
 
 -- Ok of the command where IsLine, Err Size where IsUnreadable, Err Bad where HasNoForm
 -- the one command or fault that is such: IsLine, IsUnreadable, HasNoForm, by vm_commands::law_lines
-unfoldable pub command_of : List ℕ → Result Command LineFault
-command_of line = command_of_words (words_of line)
+unfoldable pub command_of : ℕ → List ℕ → Result Command LineFault
+command_of page line = command_of_words page (words_of line)
 
 -- ---- answers
 

@@ -1,4 +1,4 @@
--- Which texts are sizes: a number at once followed by a unit, as the `virsh` manual has it for `setmem`.
+-- Which texts are sizes: a number at once followed by a unit, as the `virsh` manual has it for `setmem`, KiB where none is named.
 use Rattle.std.specs.Prelude.{◌≡◌, ℕ, ◌+◌, ◌*◌, ◌^◌, ◌<◌, ◌≤◌, List, [], ◌∷◌, ◌++◌, Contains, length, map, codes}
 use Rattle.std.specs.List.{AllPass}
 use Rattle.std.specs.Char.{is_ascii_digit, to_ascii_lowercase}
@@ -15,13 +15,13 @@ units =
     ∷ (codes "g", 1073741824) ∷ (codes "gib", 1073741824)
     ∷ (codes "gb", 1000000000) ∷ []
 
--- these are the fewest pages of 4096 bytes that have room for the bytes
-pub record IsFewestPages (pages bytes : ℕ) : Type 0 where
-  pub enough : bytes ≤ 4096 * pages
-  pub fewest : 4096 * pages < bytes + 4096
+-- these are the fewest pages, of `page` KiB each, that have room for the bytes
+pub record IsFewestPages (page pages bytes : ℕ) : Type 0 where
+  pub enough : bytes ≤ 1024 * page * pages
+  pub fewest : 1024 * page * pages < bytes + 1024 * page
 
--- the text is a size of so many pages
-pub record IsSize (text : List ℕ) (pages : ℕ) : Type 0 where
+-- the text is a size of so many pages of `page` KiB
+pub record IsSize (page : ℕ) (text : List ℕ) (pages : ℕ) : Type 0 where
   pub digits : List ℕ
   pub suffix : List ℕ
   pub unit : ℕ
@@ -31,4 +31,4 @@ pub record IsSize (text : List ℕ) (pages : ℕ) : Type 0 where
   pub decimal : AllPass is_ascii_digit digits
   pub named : Contains units (map to_ascii_lowercase suffix, unit)
   pub small : digits_value 10 digits * unit < 2 ^ 64
-  pub rounded : IsFewestPages pages (digits_value 10 digits * unit)
+  pub rounded : IsFewestPages page pages (digits_value 10 digits * unit)

@@ -1,7 +1,8 @@
 -- The pages of a size: what SizeGrammar has as facts, as functions that compute it.
-use Rattle.std.specs.Prelude.{ℕ, ◌+◌, ◌*◌, ◌/◌, ◌^◌, ◌&&◌, ◌||◌, Bool, nat_lt, nat_le, if◌then◌else◌, List, take, drop, map, codes, bytes_eq, Option, Some, None, option_and_then}
+use Rattle.std.specs.Prelude.{ℕ, ◌*◌, ◌^◌, ◌&&◌, ◌||◌, Bool, nat_lt, nat_le, if◌then◌else◌, List, take, drop, map, codes, bytes_eq, Option, Some, None, option_and_then}
 use Rattle.std.specs.List.{prefix_len}
 use Rattle.std.specs.Char.{is_ascii_digit, to_ascii_lowercase}
+use Rattle.std.specs.Int.{div_ceil}
 use Rattle.std.specs.Str.Parse.{digits_value}
 
 -- ---- the same as functions (law_sizes)
@@ -41,12 +42,12 @@ bytes_of_size text =
           else None)
     else None
 
--- rounded up to KiB, and then up to pages of 4 KiB
-abbrev pub pages_of_bytes : ℕ → ℕ
-pages_of_bytes bytes = ((bytes + 1023) / 1024 + 3) / 4
+-- rounded up to KiB, and then up to pages of `page` KiB
+abbrev pub pages_of_bytes : ℕ → ℕ → ℕ
+pages_of_bytes page bytes = div_ceil (div_ceil bytes 1024) page
 
--- the one number of pages that is such: IsSize, by vm_commands::law_sizes
-unfoldable pub pages_of_size : List ℕ → Option ℕ
-pages_of_size text = do
+-- the one number of pages of `page` KiB that is such: IsSize, by vm_commands::law_sizes
+unfoldable pub pages_of_size : ℕ → List ℕ → Option ℕ
+pages_of_size page text = do
   bytes ← bytes_of_size text
-  Some (pages_of_bytes bytes)
+  Some (pages_of_bytes page bytes)

@@ -54,7 +54,8 @@ impl From<String> for Domain {
     }
 }
 
-/// What a line asks for. D, the domain, doesn't begin with a dash. A page has 4096 bytes.
+/// What a line asks for. D, the domain, doesn't begin with a dash. A page is of as many KiB as [`parse_line`](crate::parse_line)
+/// was told.
 #[derive(Debug, Drop)]
 pub enum Command {
     /// `start D`

@@ -1,7 +1,7 @@
 //! The memory commands of a host, as lines in the manner of `virsh`.
 //!
-//! [`parse_line`] gives the [`Command`] that a line is, and [`scaled_pages`] how many pages a size is. Contracts speak of both by
-//! functions; [`law_lines`] and [`law_sizes`] say that these are what the grammar says.
+//! [`parse_line`] gives the [`Command`] that a line is, and [`scaled_pages`] how many pages a size is. Both are told how many KiB
+//! a page is. Contracts speak of both by functions; [`law_lines`] and [`law_sizes`] say that these are what the grammar says.
 #![tactic(auto)]
 
 mod command;

@@ -1,5 +1,5 @@
 // Reads a command from its line.
-ghost use Rattle.std.specs.Prelude.{◌≡◌, ◌↔◌, IfOk, IsErrOf, map, not, nat_eq, codes, option_copied};
+ghost use Rattle.std.specs.Prelude.{◌≡◌, ◌≤◌, ◌↔◌, IfOk, IsErrOf, map, not, nat_eq, codes, option_copied};
 ghost use Rattle.std.specs.List.{starts_with};
 ghost use Rattle.vm_commands.specs.declared.command.Command.{Command};
 ghost use Rattle.vm_commands.specs.LineGrammar.{IsLine, IsUnreadable, HasNoForm};
@@ -32,26 +32,28 @@ const MAX_WORDS: usize = 4;
 /// | [`Command::SetShares`] | `memshares D N` |
 /// | [`Command::ShowStatistics`] | `dommemstat D` |
 ///
-/// D doesn't begin with a dash. SIZE and N are any words, read by [`scaled_pages`](crate::scaled_pages) and as 1 to 7
-/// decimal digits. All but `memshares` are commands of `virsh`. Memory is only wanted for the domain's word.
-pub fn parse_line(alloc: Global, line: &str) -> Result<Command, LineFault>
-    ensures exact { Gives result (command_of line.now) }
+/// D doesn't begin with a dash. SIZE and N are any words, read by [`scaled_pages`](crate::scaled_pages), in pages of `page` KiB,
+/// and as 1 to 7 decimal digits. All but `memshares` are commands of `virsh`. Memory is only wanted for the domain's word.
+pub fn parse_line(alloc: Global, line: &str, page: u32) -> Result<Command, LineFault>
+    requires { 1 ≤ page }
+    ensures exact { Gives result (command_of page line.now) }
 
     // What is read is a line of that command, and a line of a command is read so.
-    ensures command { IfOk result (IsLine line.now) }
-    ensures accepts { (command : Command) → IsLine line.now command → IsOrMemory result command }
+    ensures command { IfOk result (IsLine page line.now) }
+    ensures accepts { (command : Command) → IsLine page line.now command → IsOrMemory result command }
 
     // Which fault it is. Memory is only wanted for a command.
     ensures bad { IsErrOf result LineFault.Bad ↔ HasNoForm line.now }
-    ensures size { IsErrOf result LineFault.Size ↔ IsUnreadable line.now }
-    ensures memory { IsErrOf result LineFault.Memory → (command : Command) × IsLine line.now command }
+    ensures size { IsErrOf result LineFault.Size ↔ IsUnreadable page line.now }
+    ensures memory { IsErrOf result LineFault.Memory → (command : Command) × IsLine page line.now command }
 {
-    command_of(alloc, line)
+    command_of(alloc, line, page)
 }
 
 // The command of a line.
-fn command_of(alloc: Global, line: &str) -> Result<Command, LineFault>
-    ensures { Gives result (command_of line.now) }
+fn command_of(alloc: Global, line: &str, page: u32) -> Result<Command, LineFault>
+    requires { 1 ≤ page }
+    ensures { Gives result (command_of page line.now) }
 {
     let mut words = [""; MAX_WORDS];
     let mut count = 0;
@@ -65,7 +67,7 @@ fn command_of(alloc: Global, line: &str) -> Result<Command, LineFault>
         words[count] = word;
         count += 1;
     }
-    command_of_words(alloc, &words[..count])
+    command_of_words(alloc, &words[..count], page)
 }
 
 // Whether a word can name a domain.
@@ -77,28 +79,31 @@ fn is_domain(word: &str) -> bool
 
 // setmem D SIZE
 #[tactic(auto, unfolding(crate::specs::Lines::set_memory))]
-fn set_memory(alloc: Global, domain: &str, size: &str) -> Result<Command, LineFault>
-    ensures { Gives result (set_memory domain.now size.now) }
+fn set_memory(alloc: Global, domain: &str, size: &str, page: u32) -> Result<Command, LineFault>
+    requires { 1 ≤ page }
+    ensures { Gives result (set_memory page domain.now size.now) }
 {
-    let pages = pages_of_size(size.as_bytes()).ok_or(LineFault::Size)?;
+    let pages = pages_of_size(size.as_bytes(), page).ok_or(LineFault::Size)?;
     let domain = Domain::new(alloc, domain)?;
     Ok(Command::SetMemory { domain, pages })
 }
 
 // The pages of a minimum, at least one.
 #[tactic(auto, unfolding(crate::specs::Lines::minimum_of))]
-fn minimum_of(size: &[u8]) -> Option<u64>
-    ensures { result ≡ minimum_of size.now }
+fn minimum_of(size: &[u8], page: u32) -> Option<u64>
+    requires { 1 ≤ page }
+    ensures { result ≡ minimum_of page size.now }
 {
-    pages_of_size(size).filter(|pages| *pages != 0)
+    pages_of_size(size, page).filter(|pages| *pages != 0)
 }
 
 // memtune D with a minimum of SIZE
 #[tactic(auto, unfolding(crate::specs::Lines::set_minimum))]
-fn set_minimum(alloc: Global, domain: &str, size: &[u8]) -> Result<Command, LineFault>
-    ensures { Gives result (set_minimum domain.now size.now) }
+fn set_minimum(alloc: Global, domain: &str, size: &[u8], page: u32) -> Result<Command, LineFault>
+    requires { 1 ≤ page }
+    ensures { Gives result (set_minimum page domain.now size.now) }
 {
-    let pages = minimum_of(size).ok_or(LineFault::Size)?;
+    let pages = minimum_of(size, page).ok_or(LineFault::Size)?;
     let domain = Domain::new(alloc, domain)?;
     Ok(Command::SetMinimum { domain, pages })
 }
@@ -162,35 +167,43 @@ fn domain_command(alloc: Global, kind: &str, domain: &str) -> Result<Command, Li
 
 // memtune D --min-guarantee=SIZE
 #[tactic(auto, unfolding(crate::specs::Lines::tune_joined))]
-fn tune_joined(alloc: Global, domain: &str, option: &str) -> Result<Command, LineFault>
-    ensures { Gives result (tune_joined domain.now option.now) }
+fn tune_joined(alloc: Global, domain: &str, option: &str, page: u32) -> Result<Command, LineFault>
+    requires { 1 ≤ page }
+    ensures { Gives result (tune_joined page domain.now option.now) }
 {
     if !is_domain(domain) {
         return Err(LineFault::Bad);
     }
     match joined_size(option) {
-        Some(size) => set_minimum(alloc, domain, size),
+        Some(size) => set_minimum(alloc, domain, size, page),
         None => Err(LineFault::Bad),
     }
 }
 
 // K D SIZE, where K is setmem or memshares, or memtune with a joined option before or after D
 #[tactic(auto, unfolding(crate::specs::Lines::sized_command))]
-fn sized_command(alloc: Global, kind: &str, a: &str, b: &str) -> Result<Command, LineFault>
-    ensures { Gives result (sized_command kind.now a.now b.now) }
+fn sized_command(
+    alloc: Global,
+    kind: &str,
+    a: &str,
+    b: &str,
+    page: u32,
+) -> Result<Command, LineFault>
+    requires { 1 ≤ page }
+    ensures { Gives result (sized_command page kind.now a.now b.now) }
 {
     if kind == "memtune" {
         return if is_domain(a) {
-            tune_joined(alloc, a, b)
+            tune_joined(alloc, a, b, page)
         } else {
-            tune_joined(alloc, b, a)
+            tune_joined(alloc, b, a, page)
         };
     }
     if !is_domain(a) {
         return Err(LineFault::Bad);
     }
     match kind {
-        "setmem" => set_memory(alloc, a, b),
+        "setmem" => set_memory(alloc, a, b, page),
         "memshares" => set_shares(alloc, a, b),
         _ => Err(LineFault::Bad),
     }
@@ -198,16 +211,24 @@ fn sized_command(alloc: Global, kind: &str, a: &str, b: &str) -> Result<Command,
 
 // memtune D --min-guarantee SIZE, or memtune --min-guarantee SIZE D
 #[tactic(auto, unfolding(crate::specs::Lines::tune_command))]
-fn tune_command(alloc: Global, kind: &str, a: &str, b: &str, c: &str) -> Result<Command, LineFault>
-    ensures { Gives result (tune_command kind.now a.now b.now c.now) }
+fn tune_command(
+    alloc: Global,
+    kind: &str,
+    a: &str,
+    b: &str,
+    c: &str,
+    page: u32,
+) -> Result<Command, LineFault>
+    requires { 1 ≤ page }
+    ensures { Gives result (tune_command page kind.now a.now b.now c.now) }
 {
     if kind != "memtune" {
         return Err(LineFault::Bad);
     }
     if is_domain(a) && b == MIN_GUARANTEE {
-        set_minimum(alloc, a, c.as_bytes())
+        set_minimum(alloc, a, c.as_bytes(), page)
     } else if a == MIN_GUARANTEE && is_domain(c) {
-        set_minimum(alloc, c, b.as_bytes())
+        set_minimum(alloc, c, b.as_bytes(), page)
     } else {
         Err(LineFault::Bad)
     }
@@ -215,13 +236,14 @@ fn tune_command(alloc: Global, kind: &str, a: &str, b: &str, c: &str) -> Result<
 
 // The command of some words.
 #[tactic(auto, unfolding(crate::specs::Lines::command_of_words))]
-fn command_of_words(alloc: Global, words: &[&str]) -> Result<Command, LineFault>
-    ensures { Gives result (command_of_words (map (λ word. word.now) words.now)) }
+fn command_of_words(alloc: Global, words: &[&str], page: u32) -> Result<Command, LineFault>
+    requires { 1 ≤ page }
+    ensures { Gives result (command_of_words page (map (λ word. word.now) words.now)) }
 {
     match *words {
         [kind, domain] => domain_command(alloc, kind, domain),
-        [kind, a, b] => sized_command(alloc, kind, a, b),
-        [kind, a, b, c] => tune_command(alloc, kind, a, b, c),
+        [kind, a, b] => sized_command(alloc, kind, a, b, page),
+        [kind, a, b, c] => tune_command(alloc, kind, a, b, c, page),
         _ => Err(LineFault::Bad),
     }
 }

@@ -10,7 +10,8 @@ ghost use Rattle.vm_commands.specs.Sizes.{is_named, unit_of, digits_in_front, by
 // The most digits that a size has.
 const MAX_DIGITS: usize = 20;
 
-/// The pages of 4096 bytes of a size such as `8`, `4097b` or `1GiB`, rounded up, or `None` where the text is no size.
+/// The pages of a size such as `8`, `4097b` or `1GiB`, or `None` where the text is no size. A page is of `page` KiB: 4 on most
+/// machines, more where a great one is counted in pages of several MiB.
 ///
 /// A size is 1 to 20 decimal digits at once followed by a unit in either case, as for `virsh setmem`:
 ///
@@ -24,24 +25,28 @@ const MAX_DIGITS: usize = 20;
 /// | `G`, `GiB` | 1073741824 |
 /// | `GB` | 1000000000 |
 ///
-/// The size in bytes is below 2^64.
-pub fn scaled_pages(text: &str) -> Option<u64>
-    ensures exact { result ≡ pages_of_size text.now }
+/// The size in bytes is below 2^64. It is rounded up to KiB, and then up to pages: by the manual of `virsh`, at `setmem`, libvirt
+/// counts in KiB, also where no unit is named, and a hypervisor that counts in more than a KiB rounds up once more. So it is the
+/// fewest pages that have room for the bytes.
+pub fn scaled_pages(text: &str, page: u32) -> Option<u64>
+    requires { 1 ≤ page }
+    ensures exact { result ≡ pages_of_size page text.now }
 
     // What is read is a size of so many pages, and a size of so many pages is read so.
-    ensures size { IfSome result (IsSize text.now) }
-    ensures accepts { (pages : ℕ) → IsSize text.now pages → result ≡ Some pages }
+    ensures size { IfSome result (IsSize page text.now) }
+    ensures accepts { (pages : ℕ) → IsSize page text.now pages → result ≡ Some pages }
 {
-    pages_of_size(text.as_bytes())
+    pages_of_size(text.as_bytes(), page)
 }
 
 // The same, of bytes.
 #[tactic(auto, unfolding(crate::specs::Sizes::pages_of_size))]
-pub(crate) fn pages_of_size(text: &[u8]) -> Option<u64>
-    ensures { result ≡ pages_of_size text.now }
+pub(crate) fn pages_of_size(text: &[u8], page: u32) -> Option<u64>
+    requires { 1 ≤ page }
+    ensures { result ≡ pages_of_size page text.now }
 {
     let bytes = bytes_of_size(text)?;
-    Some(bytes.div_ceil(1024).div_ceil(4))
+    Some(bytes.div_ceil(1024).div_ceil(u64::from(page)))
 }
 
 // The bytes of a size.

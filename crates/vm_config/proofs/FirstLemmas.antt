@@ -4,6 +4,7 @@ use Rattle.std.specs.declared.alloc.AllocError.{AllocError}
 use Rattle.serde_json.specs.Data.{Data}
 use Rattle.serde_json.specs.Find.{get}
 use Rattle.vm_domains.specs.Domains.{Domain}
+use Rattle.vm_domains.specs.Machine.{MachineConfig}
 use Rattle.vm_config.specs.declared.error.ConfigError.{ConfigError}
 use Rattle.vm_config.specs.declared.fault.Fault.{Fault}
 use Rattle.vm_config.specs.declared.guests.GuestList.{GuestList}
@@ -16,14 +17,14 @@ use Rattle.vm_config.specs.declared.version.Limits.{Limits}
 use Rattle.vm_config.specs.FirstFault.{StandsAtGuest}
 use Rattle.vm_config.specs.Guests.{Listed, no_guests, with_guest}
 use Rattle.vm_config.specs.Keys.{required_number, number_or, objects_in, objects_or_none}
-use Rattle.vm_config.specs.Located.{machine_at, pages_at, rates_at, choices_at, keys_of_guest, guest_at, guests_at, command_at, commands_at, numbers_at, keys_at, config_at}
+use Rattle.vm_config.specs.Located.{machine_at, additions_at, pages_at, rates_at, choices_at, keys_of_guest, guest_at, guests_at, command_at, commands_at, numbers_at, keys_at, config_at}
 use Rattle.vm_config.specs.Migration.{migrated}
 use Rattle.vm_config.specs.Outcomes.{◌>>=◌}
 use Rattle.vm_config.specs.Places.{placed, without_place, fault_in}
-use Rattle.vm_config.specs.Reading.{listed_in, guests_from, root_in, version_in}
+use Rattle.vm_config.specs.Reading.{listed_in, guests_from, machine_in, root_in, version_in}
 use Rattle.vm_config.specs.Schedule.{ScheduledLine}
-use Rattle.vm_config.specs.Versions.{version_1, version_2}
-use Rattle.vm_config.proofs.PlaceLemmas.{guest_without}
+use Rattle.vm_config.specs.Versions.{version_1, newer}
+use Rattle.vm_config.proofs.PlaceLemmas.{guest_without, machine_without}
 
 -- ---- places of faults
 
@@ -71,13 +72,13 @@ grouped_all Q A B C p (Ok x) group next here rest = rest x
 grouped_all Q A B C p (Err e) group next here rest = here
 
 machine_stands : (limits : Limits) (d : Data) → FaultsStand IsElsewhere (machine_at limits d)
-unfolding machine_at
-machine_stands limits d = search (placed_all IsElsewhere) depth 20
+unfolding machine_at additions_at
+machine_stands limits d = search (placed_all IsElsewhere, grouped_all IsElsewhere) depth 20
 
-guest_stands : (limits : Limits) (quantum : ℕ) (d : Data) (earlier : List Domain)
-    → FaultsStand (λ p. guest_number p ≡ length earlier) (keys_of_guest limits quantum d earlier (Guest (length earlier)))
+guest_stands : (limits : Limits) (quantum page : ℕ) (d : Data) (earlier : List Domain)
+    → FaultsStand (λ p. guest_number p ≡ length earlier) (keys_of_guest limits quantum page d earlier (Guest (length earlier)))
 unfolding keys_of_guest pages_at rates_at choices_at
-guest_stands limits quantum d earlier =
+guest_stands limits quantum page d earlier =
     search (placed_all (λ (p : Place). guest_number p ≡ length earlier), grouped_all (λ (p : Place). guest_number p ≡ length earlier)) depth 40
 
 command_stands : (number : ℕ) (d : Data) → FaultsStand IsElsewhere (command_at number d)
@@ -133,28 +134,28 @@ kept (Err g) next f elsewhere guest is = ap Err (ap (fault_or g) is)
 -- ---- guests
 
 -- a fault among guests that come after these ones
-record Refuses (limits : Limits) (quantum : ℕ) (ds : List Data) (earlier : GuestList) (f : Fault) : Type 0 where
+record Refuses (limits : Limits) (quantum page : ℕ) (ds : List Data) (earlier : GuestList) (f : Fault) : Type 0 where
   before : List Data
   object : Data
   after : List Data
   now : GuestList
   are : ds ≡ before ++ object ∷ after
   number : guest_number f.place ≡ length earlier.domains + length before
-  are_read : guests_from limits quantum before earlier ≡ Ok now
-  is_refused : listed_in limits quantum object now.domains ≡ Err f.error
+  are_read : guests_from limits quantum page before earlier ≡ Ok now
+  is_refused : listed_in limits quantum page object now.domains ≡ Err f.error
 
-read_is : (limits : Limits) (quantum : ℕ) (d : Data) (earlier : List Domain) (read : Result Listed Fault)
-    → guest_at limits quantum d earlier ≡ read → listed_in limits quantum d earlier ≡ without_place read
-read_is limits quantum d earlier read is = sym (guest_without limits quantum d earlier (Guest (length earlier)))
+read_is : (limits : Limits) (quantum page : ℕ) (d : Data) (earlier : List Domain) (read : Result Listed Fault)
+    → guest_at limits quantum page d earlier ≡ read → listed_in limits quantum page d earlier ≡ without_place read
+read_is limits quantum page d earlier read is = sym (guest_without limits quantum page d earlier (Guest (length earlier)))
     ∙ ap without_place is
 
-first_of : (limits : Limits) (quantum : ℕ) (d : Data) (ds : List Data) (earlier : GuestList) (f : Fault)
+first_of : (limits : Limits) (quantum page : ℕ) (d : Data) (ds : List Data) (earlier : GuestList) (f : Fault)
     (read : Result Listed Fault)
-    → guest_at limits quantum d earlier.domains ≡ read
-    → (read >>= (λ listed. guests_at limits quantum ds (with_guest earlier listed))) ≡ Err f
-    → ((now : GuestList) → guests_at limits quantum ds now ≡ Err f → Refuses limits quantum ds now f)
-    → Refuses limits quantum (d ∷ ds) earlier f
-first_of limits quantum d ds earlier f (Ok listed) is error rest =
+    → guest_at limits quantum page d earlier.domains ≡ read
+    → (read >>= (λ listed. guests_at limits quantum page ds (with_guest earlier listed))) ≡ Err f
+    → ((now : GuestList) → guests_at limits quantum page ds now ≡ Err f → Refuses limits quantum page ds now f)
+    → Refuses limits quantum page (d ∷ ds) earlier f
+first_of limits quantum page d ds earlier f (Ok listed) is error rest =
     let r = rest (with_guest earlier listed) error in
     record {
       before = d ∷ r.before;
@@ -163,15 +164,15 @@ first_of limits quantum d ds earlier f (Ok listed) is error rest =
       now = r.now;
       are = ap (λ l. d ∷ l) r.are;
       number = omega (arith, r.number, length-append earlier.domains (listed.domain ∷ []));
-      are_read = ap (λ x. x >>= (λ l. guests_from limits quantum r.before (with_guest earlier l)))
-          (read_is limits quantum d earlier.domains (Ok listed) is) ∙ r.are_read;
+      are_read = ap (λ x. x >>= (λ l. guests_from limits quantum page r.before (with_guest earlier l)))
+          (read_is limits quantum page d earlier.domains (Ok listed) is) ∙ r.are_read;
       is_refused = r.is_refused;
     }
-first_of limits quantum d ds earlier f (Err g) is error rest =
+first_of limits quantum page d ds earlier f (Err g) is error rest =
     let same : g ≡ f = ap (fault_or g) error in
     let stands : guest_number g.place ≡ length earlier.domains =
     subst (FaultsStand (λ (p : Place). guest_number p ≡ length earlier.domains)) is
-    (guest_stands limits quantum d earlier.domains) in
+    (guest_stands limits quantum page d earlier.domains) in
     let numbered : guest_number f.place ≡ length earlier.domains = ap (λ (h : Fault). guest_number h.place) (sym same) ∙ stands in
     record {
       before = [];
@@ -181,24 +182,26 @@ first_of limits quantum d ds earlier f (Err g) is error rest =
       are = refl;
       number = omega (arith, numbered);
       are_read = refl;
-      is_refused = read_is limits quantum d earlier.domains (Err g) is ∙ ap (λ (h : Fault). Err h.error) same;
+      is_refused = read_is limits quantum page d earlier.domains (Err g) is ∙ ap (λ (h : Fault). Err h.error) same;
     }
 
-first_guest : (limits : Limits) (quantum : ℕ) (ds : List Data) (earlier : GuestList) (f : Fault)
-    → guests_at limits quantum ds earlier ≡ Err f → Refuses limits quantum ds earlier f
-first_guest limits quantum [] earlier f is = absurd (true≢false (ap is_ok is))
-first_guest limits quantum (d ∷ ds) earlier f is =
-    first_of limits quantum d ds earlier f (guest_at limits quantum d earlier.domains) refl is
-    (λ (now : GuestList) error. first_guest limits quantum ds now f error)
+first_guest : (limits : Limits) (quantum page : ℕ) (ds : List Data) (earlier : GuestList) (f : Fault)
+    → guests_at limits quantum page ds earlier ≡ Err f → Refuses limits quantum page ds earlier f
+first_guest limits quantum page [] earlier f is = absurd (true≢false (ap is_ok is))
+first_guest limits quantum page (d ∷ ds) earlier f is =
+    first_of limits quantum page d ds earlier f (guest_at limits quantum page d earlier.domains) refl is
+    (λ (now : GuestList) error. first_guest limits quantum page ds now f error)
 
 -- ---- the whole
 
 record KeysRefuse (limits : Limits) (d : Data) (f : Fault) : Type 0 where
+  machine : MachineConfig
   quantum : ℕ
   objects : List Data
+  machine_is : machine_in limits d ≡ Ok machine
   quantum_is : number_or (get (codes "quantum") d) 1 65536 100 ≡ Ok quantum
   objects_are : objects_in limits.guests (get (codes "guests") d) ≡ Ok objects
-  first : Refuses limits quantum objects no_guests f
+  first : Refuses limits quantum machine.page objects no_guests f
 
 keys_first : (limits : Limits) (d : Data) (f : Fault) → is_of_guest f.place ≡ true → keys_at limits d ≡ Err f
     → KeysRefuse limits d f
@@ -211,37 +214,41 @@ keys_first limits d f guest is =
     let schedule = passed_at (place.Key Root Commands)
     (objects_or_none 10000 (get (codes "commands") d)) _ f refl guest objects.2 in
     record {
+      machine = machine.0;
       quantum = quantum.0;
       objects = objects.0;
+      machine_is = sym (machine_without limits d) ∙ ap without_place machine.1;
       quantum_is = quantum.1;
       objects_are = objects.1;
-      first = first_guest limits quantum.0 objects.0 no_guests f
-          (kept (guests_at limits quantum.0 objects.0 no_guests) _ f
+      first = first_guest limits quantum.0 machine.0.page objects.0 no_guests f
+          (kept (guests_at limits quantum.0 machine.0.page objects.0 no_guests) _ f
           (λ guests. located_all IsElsewhere (commands_at schedule.0 []) _ (commands_stand schedule.0 [])
           (λ commands. tt)) guest schedule.2);
     }
 
-version_first : (b : Bool) (d : Data) (f : Fault) → is_of_guest f.place ≡ true
-    → cond b (keys_at version_1 d >>= (λ c. Ok (migrated c))) (keys_at version_2 d) ≡ Err f
-    → KeysRefuse (cond b version_1 version_2) d f
-version_first true d f guest is = keys_first version_1 d f guest (kept (keys_at version_1 d) _ f (λ c. tt) guest is)
-version_first false d f guest is = keys_first version_2 d f guest is
+version_first : (b : Bool) (version : ℕ) (d : Data) (f : Fault) → is_of_guest f.place ≡ true
+    → cond b (keys_at version_1 d >>= (λ c. Ok (migrated c))) (keys_at (newer version) d) ≡ Err f
+    → KeysRefuse (cond b version_1 (newer version)) d f
+version_first true version d f guest is = keys_first version_1 d f guest (kept (keys_at version_1 d) _ f (λ c. tt) guest is)
+version_first false version d f guest is = keys_first (newer version) d f guest is
 
 config_first : (bytes : List ℕ) (f : Fault) → is_of_guest f.place ≡ true → config_at bytes ≡ Err f
     → StandsAtGuest bytes (guest_number f.place) f.error
 config_first bytes f guest is =
     let root = passed_at place.Text (root_in bytes) _ f refl guest is in
-    let version = passed_at (place.Key Root Version) (version_in 2 root.0) _ f refl guest root.2 in
-    let keys = version_first (version.0 == 1) root.0 f guest version.2 in
+    let version = passed_at (place.Key Root Version) (version_in 3 root.0) _ f refl guest root.2 in
+    let keys = version_first (version.0 == 1) version.0 root.0 f guest version.2 in
     let r = keys.first in
     let number : guest_number f.place ≡ length r.before = omega (arith, r.number) in
     record {
       root = root.0;
       version = version.0;
+      machine = keys.machine;
       quantum = keys.quantum;
       objects = keys.objects;
       root_is = root.1;
       version_is = version.1;
+      machine_is = keys.machine_is;
       quantum_is = keys.quantum_is;
       objects_are = keys.objects_are;
       first = record {

@@ -7,7 +7,7 @@ use Rattle.vm_config.specs.declared.version.Limits.{Limits}
 use Rattle.vm_config.specs.Named.{Reads}
 use Rattle.vm_config.specs.Located.{guest_at, guests_at}
 
-pub next_guest : (limits : Limits) (quantum : ℕ) (object : Value) (left rest : List Value) (old new : GuestList)
-    → left ≡ object ∷ rest → Reads old new (guest_at limits quantum (view object) old.domains)
-    → guests_at limits quantum (map view left) old ≡ guests_at limits quantum (map view rest) new
-next_guest limits quantum object left rest old new is reads = rw (is, reads.1, reads.2) refl
+pub next_guest : (limits : Limits) (quantum page : ℕ) (object : Value) (left rest : List Value) (old new : GuestList)
+    → left ≡ object ∷ rest → Reads old new (guest_at limits quantum page (view object) old.domains)
+    → guests_at limits quantum page (map view left) old ≡ guests_at limits quantum page (map view rest) new
+next_guest limits quantum page object left rest old new is reads = rw (is, reads.1, reads.2) refl

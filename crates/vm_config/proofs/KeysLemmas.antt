@@ -48,13 +48,13 @@ schedule_fails limits d numbers objects f first second is = rw (first, second, i
 
 pub guests_fail : (limits : Limits) (d : Data) (numbers : Numbers) (objects schedule : List Data) (f : Fault)
     → numbers_at limits d ≡ Ok numbers → objects_at limits d ≡ Ok objects → schedule_at d ≡ Ok schedule
-    → guests_at limits numbers.quantum objects no_guests ≡ Err f → keys_at limits d ≡ Err f
+    → guests_at limits numbers.quantum numbers.page objects no_guests ≡ Err f → keys_at limits d ≡ Err f
 unfolding keys_at
 guests_fail limits d numbers objects schedule f first second third is = rw (first, second, third, is) refl
 
 pub commands_fail : (limits : Limits) (d : Data) (numbers : Numbers) (objects schedule : List Data) (guests : GuestList) (f : Fault)
     → numbers_at limits d ≡ Ok numbers → objects_at limits d ≡ Ok objects → schedule_at d ≡ Ok schedule
-    → guests_at limits numbers.quantum objects no_guests ≡ Ok guests → commands_at schedule [] ≡ Err f → keys_at limits d ≡ Err f
+    → guests_at limits numbers.quantum numbers.page objects no_guests ≡ Ok guests → commands_at schedule [] ≡ Err f → keys_at limits d ≡ Err f
 unfolding keys_at
 commands_fail limits d numbers objects schedule guests f first second third fourth is =
     rw (first, second, third, fourth, is) refl
@@ -62,7 +62,7 @@ commands_fail limits d numbers objects schedule guests f first second third four
 pub keys_are : (limits : Limits) (d : Data) (numbers : Numbers) (objects schedule : List Data) (guests : GuestList)
     (commands : List ScheduledLine)
     → numbers_at limits d ≡ Ok numbers → objects_at limits d ≡ Ok objects → schedule_at d ≡ Ok schedule
-    → guests_at limits numbers.quantum objects no_guests ≡ Ok guests → commands_at schedule [] ≡ Ok commands
+    → guests_at limits numbers.quantum numbers.page objects no_guests ≡ Ok guests → commands_at schedule [] ≡ Ok commands
     → keys_at limits d ≡ Ok (config_with numbers guests commands)
 unfolding keys_at
 keys_are limits d numbers objects schedule guests commands first second third fourth is =

@@ -7,5 +7,8 @@ pub mod GuestKeysLemmas
 pub mod KeysLemmas
 pub mod VersionLemmas
 pub mod PlaceLemmas
+mod NewerStepLemmas
+pub mod AsVersion3Lemmas
+pub mod AsVersion3Roots
 pub mod FirstLemmas
 mod SettingLemmas

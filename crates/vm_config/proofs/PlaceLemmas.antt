@@ -13,13 +13,13 @@ use Rattle.vm_config.specs.declared.place.Place.{Place}
 use Rattle.vm_config.specs.declared.fault.Fault.{Fault}
 use Rattle.vm_config.specs.declared.version.Limits.{Limits}
 use Rattle.vm_config.specs.Guests.{Listed, no_guests, with_guest}
-use Rattle.vm_config.specs.Located.{machine_at, pages_at, rates_at, choices_at, keys_of_guest, guest_at, guests_at, command_at, commands_at, numbers_at, keys_at, config_v1_at, config_in_at, config_at}
+use Rattle.vm_config.specs.Located.{machine_at, additions_at, pages_at, rates_at, choices_at, keys_of_guest, guest_at, guests_at, command_at, commands_at, numbers_at, keys_at, config_v1_at, config_in_at, config_at}
 use Rattle.vm_config.specs.Migration.{migrated}
 use Rattle.vm_config.specs.Outcomes.{◌>>=◌, IsOrMemory}
 use Rattle.vm_config.specs.Places.{placed, without_place, error_in, fault_in, IsOrLacksMemory}
 use Rattle.vm_config.specs.Reading.{machine_in, listed_in, guests_from, command_in, commands_from, keys_in, config_v1_of, config_in, config_of}
 use Rattle.vm_config.specs.Schedule.{ScheduledLine}
-use Rattle.vm_config.specs.Versions.{version_1, version_2}
+use Rattle.vm_config.specs.Versions.{version_1, newer}
 
 -- what is read at a place, and then the rest
 pub placed_then : {A B : Type 0} (place : Place) (read : Result A ConfigError) (next : A → Result B Fault)
@@ -53,21 +53,21 @@ located_group (Ok x) read group next rest is same = same x ∙ ap (λ r. r >>= r
 located_group (Err fault) read group next rest is same = ap (λ r. r >>= rest) is
 
 pub machine_without : (limits : Limits) (d : Data) → without_place (machine_at limits d) ≡ machine_in limits d
-unfolding machine_at machine_in
-machine_without limits d = search placed_then depth 20
+unfolding machine_at additions_at machine_in
+machine_without limits d = search (placed_then, grouped_then) depth 20
 
-pub guest_without : (limits : Limits) (quantum : ℕ) (d : Data) (earlier : List Domain) (guest : Part)
-    → without_place (keys_of_guest limits quantum d earlier guest) ≡ listed_in limits quantum d earlier
+pub guest_without : (limits : Limits) (quantum page : ℕ) (d : Data) (earlier : List Domain) (guest : Part)
+    → without_place (keys_of_guest limits quantum page d earlier guest) ≡ listed_in limits quantum page d earlier
 unfolding keys_of_guest pages_at rates_at choices_at listed_in
-guest_without limits quantum d earlier guest = search (placed_then, grouped_then) depth 40
+guest_without limits quantum page d earlier guest = search (placed_then, grouped_then) depth 40
 
-pub guests_without : (limits : Limits) (quantum : ℕ) (ds : List Data) (earlier : GuestList)
-    → without_place (guests_at limits quantum ds earlier) ≡ guests_from limits quantum ds earlier
-guests_without limits quantum [] earlier = refl
-guests_without limits quantum (d ∷ ds) earlier =
-    located_then (guest_at limits quantum d earlier.domains) (listed_in limits quantum d earlier.domains) _ _
-    (guest_without limits quantum d earlier.domains _)
-    (λ (listed : Listed). guests_without limits quantum ds (with_guest earlier listed))
+pub guests_without : (limits : Limits) (quantum page : ℕ) (ds : List Data) (earlier : GuestList)
+    → without_place (guests_at limits quantum page ds earlier) ≡ guests_from limits quantum page ds earlier
+guests_without limits quantum page [] earlier = refl
+guests_without limits quantum page (d ∷ ds) earlier =
+    located_then (guest_at limits quantum page d earlier.domains) (listed_in limits quantum page d earlier.domains) _ _
+    (guest_without limits quantum page d earlier.domains _)
+    (λ (listed : Listed). guests_without limits quantum page ds (with_guest earlier listed))
 
 pub command_without : (number : ℕ) (d : Data) → without_place (command_at number d) ≡ command_in d
 command_without number d = search placed_then
@@ -83,13 +83,13 @@ whole machine epochs guests commands =
     record { machine = machine; epochs = epochs; domains = guests.domains; autostart = guests.autostart; commands = commands }
 
 lists_without : (limits : Limits) (quantum : ℕ) (objects schedule : List Data) (machine : MachineConfig) (epochs : ℕ)
-    → without_place (guests_at limits quantum objects no_guests >>=
+    → without_place (guests_at limits quantum machine.page objects no_guests >>=
     (λ guests. commands_at schedule [] >>= (λ commands. Ok (whole machine epochs guests commands))))
-    ≡ (guests_from limits quantum objects no_guests >>=
+    ≡ (guests_from limits quantum machine.page objects no_guests >>=
     (λ guests. commands_from schedule [] >>= (λ commands. Ok (whole machine epochs guests commands))))
 lists_without limits quantum objects schedule machine epochs =
-    located_then (guests_at limits quantum objects no_guests) (guests_from limits quantum objects no_guests) _ _
-    (guests_without limits quantum objects no_guests)
+    located_then (guests_at limits quantum machine.page objects no_guests) (guests_from limits quantum machine.page objects no_guests) _ _
+    (guests_without limits quantum machine.page objects no_guests)
     (λ (guests : GuestList). located_then (commands_at schedule []) (commands_from schedule []) _ _ (commands_without schedule [])
     (λ (commands : List ScheduledLine). refl))
 
@@ -110,10 +110,10 @@ migrated_without d = located_then (keys_at version_1 d) (keys_in version_1 d) _ 
 config_in_without : (version : ℕ) (d : Data) → without_place (config_in_at version d) ≡ config_in version d
 config_in_without version d = choice (version == 1)
   where
-    choice : (b : Bool) → without_place (cond b (keys_at version_1 d >>= (λ c. Ok (migrated c))) (keys_at version_2 d))
-        ≡ cond b (keys_in version_1 d >>= (λ c. Ok (migrated c))) (keys_in version_2 d)
+    choice : (b : Bool) → without_place (cond b (keys_at version_1 d >>= (λ c. Ok (migrated c))) (keys_at (newer version) d))
+        ≡ cond b (keys_in version_1 d >>= (λ c. Ok (migrated c))) (keys_in (newer version) d)
     choice true = migrated_without d
-    choice false = keys_without version_2 d
+    choice false = keys_without (newer version) d
 
 pub config_without : (bytes : List ℕ) → without_place (config_at bytes) ≡ config_of bytes
 config_without bytes = search (placed_then, config_in_without)

@@ -2,7 +2,7 @@
 use Rattle.std.proofs.Common.{◌≡◌, ℕ, refl}
 use Rattle.vm_config.specs.declared.config.Config.{Config}
 use Rattle.vm_config.specs.declared.settings.Setting.{Setting}
-use Rattle.vm_config.specs.declared.settings.Setting.TheVariants.{Frames, Swap, Tax, PageRate}
+use Rattle.vm_config.specs.declared.settings.Setting.TheVariants.{Frames, Swap, Tax, PageRate, Rebalance}
 use Rattle.vm_domains.specs.Machine.{IsMachine}
 use Rattle.vm_config.specs.Limits.{IsConfig}
 use Rattle.vm_config.specs.Settings.{setting_of, with_setting, IsInRange}
@@ -17,6 +17,9 @@ with_setting-machine Frames value c inside is = record {
   falling = is.falling;
   some_paging = is.some_paging;
   slow_paging = is.slow_paging;
+  few_moves = is.few_moves;
+  page_from = is.page_from;
+  page_to = is.page_to;
 }
 with_setting-machine Swap value c inside is = record {
   some_frames = is.some_frames;
@@ -27,6 +30,9 @@ with_setting-machine Swap value c inside is = record {
   falling = is.falling;
   some_paging = is.some_paging;
   slow_paging = is.slow_paging;
+  few_moves = is.few_moves;
+  page_from = is.page_from;
+  page_to = is.page_to;
 }
 with_setting-machine Tax value c inside is = record {
   some_frames = is.some_frames;
@@ -37,6 +43,9 @@ with_setting-machine Tax value c inside is = record {
   falling = is.falling;
   some_paging = is.some_paging;
   slow_paging = is.slow_paging;
+  few_moves = is.few_moves;
+  page_from = is.page_from;
+  page_to = is.page_to;
 }
 with_setting-machine PageRate value c inside is = record {
   some_frames = is.some_frames;
@@ -47,6 +56,22 @@ with_setting-machine PageRate value c inside is = record {
   falling = is.falling;
   some_paging = inside.least;
   slow_paging = inside.greatest;
+  few_moves = is.few_moves;
+  page_from = is.page_from;
+  page_to = is.page_to;
+}
+with_setting-machine Rebalance value c inside is = record {
+  some_frames = is.some_frames;
+  few_frames = is.few_frames;
+  small_swap = is.small_swap;
+  small_overhead = is.small_overhead;
+  part_taxed = is.part_taxed;
+  falling = is.falling;
+  some_paging = is.some_paging;
+  slow_paging = is.slow_paging;
+  few_moves = inside.greatest;
+  page_from = is.page_from;
+  page_to = is.page_to;
 }
 
 pub with_setting-limits : (setting : Setting) (value : ℕ) (c : Config) → IsInRange setting value → IsConfig c → IsConfig (with_setting setting value c)
@@ -58,15 +83,19 @@ with_setting-limits Tax value c inside is =
     record { machine = with_setting-machine Tax value c inside is.machine; domains = is.domains; few = is.few; autostart = is.autostart }
 with_setting-limits PageRate value c inside is =
     record { machine = with_setting-machine PageRate value c inside is.machine; domains = is.domains; few = is.few; autostart = is.autostart }
+with_setting-limits Rebalance value c inside is =
+    record { machine = with_setting-machine Rebalance value c inside is.machine; domains = is.domains; few = is.few; autostart = is.autostart }
 
 pub with_setting-stands : (setting : Setting) (value : ℕ) (c : Config) → setting_of setting (with_setting setting value c) ≡ value
 with_setting-stands Frames value c = refl
 with_setting-stands Swap value c = refl
 with_setting-stands Tax value c = refl
 with_setting-stands PageRate value c = refl
+with_setting-stands Rebalance value c = refl
 
 pub with_setting-same : (setting : Setting) (c : Config) → with_setting setting (setting_of setting c) c ≡ c
 with_setting-same Frames c = refl
 with_setting-same Swap c = refl
 with_setting-same Tax c = refl
 with_setting-same PageRate c = refl
+with_setting-same Rebalance c = refl

@@ -10,6 +10,7 @@ pub mod Schedule
 pub mod Migration
 pub mod Reading
 pub mod Located
+pub mod AsVersion3
 pub mod FirstFault
 pub mod Limits
 pub mod Seen

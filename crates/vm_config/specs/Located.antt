@@ -10,8 +10,9 @@ use Rattle.vm_config.specs.declared.guest_keys.Choices.{Choices}
 use Rattle.vm_config.specs.declared.guest_keys.Pages.{Pages}
 use Rattle.vm_config.specs.declared.guest_keys.Rates.{Rates}
 use Rattle.vm_config.specs.declared.guests.GuestList.{GuestList}
+use Rattle.vm_config.specs.declared.machine.Additions.{Additions}
 use Rattle.vm_config.specs.declared.reading.Numbers.{Numbers}
-use Rattle.vm_config.specs.declared.place.Key.TheVariants.{Version, Frames, Swap, Overhead, Tax, Percent, PageRate, Quantum, Epochs, Guests, Commands, Name, Size, Min, Shares, Samples, Period, Rate, Seed, Stream, Autostart, Tell, Trace, At, Line}
+use Rattle.vm_config.specs.declared.place.Key.TheVariants.{Version, Frames, Swap, Overhead, Tax, Percent, PageRate, Rebalance, Page, Quantum, Epochs, Guests, Commands, Name, Size, Min, Shares, Samples, Period, Rate, Seed, Stream, Autostart, Tell, Trace, At, Line}
 use Rattle.vm_config.specs.declared.place.Part.{Part}
 use Rattle.vm_config.specs.declared.place.Part.TheVariants.{Root, Guest, Command}
 use Rattle.vm_config.specs.declared.fault.Fault.{Fault}
@@ -20,10 +21,17 @@ use Rattle.vm_config.specs.Guests.{Listed, no_guests, with_guest}
 use Rattle.vm_config.specs.Keys.{objects_in, objects_or_none, texts_or_none}
 use Rattle.vm_config.specs.Migration.{migrated}
 use Rattle.vm_config.specs.Outcomes.{◌>>=◌}
-use Rattle.vm_config.specs.Places.{at, in_text, name_of, number_at, number_or_at, flag_or_at, flag_if_at, percents_or_at}
+use Rattle.vm_config.specs.Places.{at, in_text, name_of, number_at, number_or_at, number_if_at, flag_or_at, flag_if_at, own_driver_if_at, percents_or_at}
 use Rattle.vm_config.specs.Reading.{data_in, line_in, name_in, object_of, steps_from}
 use Rattle.vm_config.specs.Schedule.{ScheduledLine}
-use Rattle.vm_config.specs.Versions.{version_1, version_2}
+use Rattle.vm_config.specs.Versions.{version_1, newer}
+
+-- the keys of the machine that version 3 has beside the others
+unfoldable pub additions_at : Limits → Data → Result Additions Fault
+additions_at limits d = do
+  rebalance ← number_if_at limits.knows_version_3 d Root Rebalance 0 262144 0
+  page ← number_if_at limits.knows_version_3 d Root Page 4 1048576 4
+  Ok (record { rebalance = rebalance; page = page })
 
 unfoldable pub machine_at : Limits → Data → Result MachineConfig Fault
 machine_at limits d = do
@@ -33,6 +41,7 @@ machine_at limits d = do
   tax ← number_or_at d Root Tax 0 limits.tax limits.default_tax
   percent ← percents_or_at d Root Percent limits.percent limits.default_percent
   page_rate ← number_or_at d Root PageRate 1 256 16
+  additions ← additions_at limits d
   Ok (record {
     frames = frames;
     swap = swap;
@@ -40,6 +49,8 @@ machine_at limits d = do
     tax = tax;
     percent = percent;
     page_rate = page_rate;
+    rebalance = additions.rebalance;
+    page = additions.page;
   })
 
 -- the keys of a guest, each fault at its key, by what they say: its pages,
@@ -58,24 +69,25 @@ rates_at d guest = do
   rate ← number_or_at d guest Rate 1 256 16
   Ok (record { shares = shares; samples = samples; period = period; rate = rate })
 
--- and its generator, whether it starts by itself, and whether it tells
+-- and its generator, whether it starts by itself, whether it tells, and whether it has a driver of its own
 unfoldable pub choices_at : Limits → Data → Part → Result Choices Fault
 choices_at limits d guest = do
   seed ← number_or_at d guest Seed 0 18446744073709551615 0
   stream ← number_or_at d guest Stream 0 18446744073709551615 0
   autostart ← flag_or_at d guest Autostart true
   tell ← flag_if_at limits.has_tell d guest Tell true
-  Ok (record { seed = seed; stream = stream; autostart = autostart; tell = tell })
+  own_driver ← own_driver_if_at limits.knows_version_3 d guest
+  Ok (record { seed = seed; stream = stream; autostart = autostart; tell = tell; own_driver = own_driver })
 
 -- the guest of this number
-unfoldable pub keys_of_guest : Limits → ℕ → Data → List Domain → Part → Result Listed Fault
-keys_of_guest limits quantum d earlier guest = do
+unfoldable pub keys_of_guest : Limits → (quantum page : ℕ) → Data → List Domain → Part → Result Listed Fault
+keys_of_guest limits quantum page d earlier guest = do
   name ← at guest Name (name_in earlier (get (name_of Name) d))
   pages ← pages_at limits d guest
   rates ← rates_at d guest
   choices ← choices_at limits d guest
   texts ← at guest Trace (texts_or_none 1000000 (get (name_of Trace) d))
-  trace ← at guest Trace (steps_from limits.size pages.size (length earlier) texts [])
+  trace ← at guest Trace (steps_from limits pages.size (length earlier) 0 texts [])
   Ok (record {
     domain = record {
       name = name;
@@ -90,6 +102,8 @@ keys_of_guest limits quantum d earlier guest = do
         seed = choices.seed;
         stream = choices.stream;
         tell = choices.tell;
+        own_driver = choices.own_driver;
+        page = page;
         trace = trace;
       };
     };
@@ -97,15 +111,15 @@ keys_of_guest limits quantum d earlier guest = do
   })
 
 -- a guest after these ones
-abbrev pub guest_at : Limits → ℕ → Data → List Domain → Result Listed Fault
-guest_at limits quantum d earlier = keys_of_guest limits quantum d earlier (Guest (length earlier))
+abbrev pub guest_at : Limits → (quantum page : ℕ) → Data → List Domain → Result Listed Fault
+guest_at limits quantum page d earlier = keys_of_guest limits quantum page d earlier (Guest (length earlier))
 
 -- the guests, one by one, after these ones
-abbrev pub guests_at : Limits → ℕ → List Data → GuestList → Result GuestList Fault
-guests_at limits quantum [] earlier = Ok earlier
-guests_at limits quantum (d ∷ ds) earlier = do
-  listed ← guest_at limits quantum d earlier.domains
-  guests_at limits quantum ds (with_guest earlier listed)
+abbrev pub guests_at : Limits → (quantum page : ℕ) → List Data → GuestList → Result GuestList Fault
+guests_at limits quantum page [] earlier = Ok earlier
+guests_at limits quantum page (d ∷ ds) earlier = do
+  listed ← guest_at limits quantum page d earlier.domains
+  guests_at limits quantum page ds (with_guest earlier listed)
 
 -- the command of this number
 abbrev pub command_at : ℕ → Data → Result ScheduledLine Fault
@@ -127,7 +141,7 @@ numbers_at limits d = do
   machine ← machine_at limits d
   quantum ← number_or_at d Root Quantum 1 65536 100
   epochs ← number_at d Root Epochs 0 10000
-  Ok (record { machine = machine; quantum = quantum; epochs = epochs })
+  Ok (record { machine = machine; page = machine.page; quantum = quantum; epochs = epochs })
 
 -- the keys of the root after the version, then each guest, and then each command
 unfoldable pub keys_at : Limits → Data → Result Config Fault
@@ -135,7 +149,7 @@ keys_at limits d = do
   numbers ← numbers_at limits d
   objects ← at Root Guests (objects_in limits.guests (get (name_of Guests) d))
   schedule ← at Root Commands (objects_or_none 10000 (get (name_of Commands) d))
-  guests ← guests_at limits numbers.quantum objects no_guests
+  guests ← guests_at limits numbers.quantum numbers.page objects no_guests
   commands ← commands_at schedule []
   Ok (record {
     machine = numbers.machine;
@@ -160,11 +174,11 @@ config_v1_at bytes = do
 
 abbrev pub config_in_at : ℕ → Data → Result Config Fault
 config_in_at version root =
-    if version == 1 then keys_at version_1 root >>= (λ c. Ok (migrated c)) else keys_at version_2 root
+    if version == 1 then keys_at version_1 root >>= (λ c. Ok (migrated c)) else keys_at (newer version) root
 
 -- of a text
 abbrev pub config_at : List ℕ → Result Config Fault
 config_at bytes = do
   root ← root_at bytes
-  version ← version_at 2 root
+  version ← version_at 3 root
   config_in_at version root

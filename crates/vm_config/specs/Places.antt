@@ -5,13 +5,13 @@ use Rattle.serde_json.specs.Find.{get}
 use Rattle.vm_config.specs.declared.error.ConfigError.{ConfigError}
 use Rattle.vm_config.specs.declared.error.ConfigError.TheVariants.{Memory}
 use Rattle.vm_config.specs.declared.place.Key.{Key}
-use Rattle.vm_config.specs.declared.place.Key.TheVariants.{Version, Frames, Swap, Overhead, Tax, Percent, PageRate, Quantum, Epochs, Guests, Commands, Name, Size, Min, Shares, Samples, Period, Rate, Seed, Stream, Autostart, Tell, Trace, At, Line}
+use Rattle.vm_config.specs.declared.place.Key.TheVariants.{Version, Frames, Swap, Overhead, Tax, Percent, PageRate, Rebalance, Page, Quantum, Epochs, Guests, Commands, Name, Size, Min, Shares, Samples, Period, Rate, Seed, Stream, Autostart, Tell, Driver, Trace, At, Line}
 use Rattle.vm_config.specs.declared.place.Part.{Part}
 use Rattle.vm_config.specs.declared.place.Place.{Place}
 use Rattle.vm_config.specs.declared.place.Place.TheVariants as place
 use Rattle.vm_config.specs.declared.fault.Fault.{Fault}
 use Rattle.vm_plan.specs.declared.thresholds.Percents.{Percents}
-use Rattle.vm_config.specs.Keys.{required_number, number_or, flag_or, flag_if, percents_or}
+use Rattle.vm_config.specs.Keys.{required_number, number_or, number_if, flag_or, flag_if, own_driver_or, own_driver_if, percents_or}
 
 -- the key, as it is written
 abbrev pub name_of : Key → List ℕ
@@ -22,6 +22,8 @@ name_of Overhead = codes "overhead"
 name_of Tax = codes "tax"
 name_of Percent = codes "percent"
 name_of PageRate = codes "page_rate"
+name_of Rebalance = codes "rebalance"
+name_of Page = codes "page"
 name_of Quantum = codes "quantum"
 name_of Epochs = codes "epochs"
 name_of Guests = codes "guests"
@@ -37,6 +39,7 @@ name_of Seed = codes "seed"
 name_of Stream = codes "stream"
 name_of Autostart = codes "autostart"
 name_of Tell = codes "tell"
+name_of Driver = codes "driver"
 name_of Trace = codes "trace"
 name_of At = codes "at"
 name_of Line = codes "line"
@@ -61,11 +64,20 @@ number_at d part key least greatest = at part key (required_number (get (name_of
 abbrev pub number_or_at : Data → Part → Key → ℕ → ℕ → ℕ → Result ℕ Fault
 number_or_at d part key least greatest default = at part key (number_or (get (name_of key) d) least greatest default)
 
+abbrev pub number_if_at : Bool → Data → Part → Key → ℕ → ℕ → ℕ → Result ℕ Fault
+number_if_at is_known d part key least greatest default = at part key (number_if is_known (get (name_of key) d) least greatest default)
+
 abbrev pub flag_or_at : Data → Part → Key → Bool → Result Bool Fault
 flag_or_at d part key default = at part key (flag_or (get (name_of key) d) default)
 
 abbrev pub flag_if_at : Bool → Data → Part → Key → Bool → Result Bool Fault
 flag_if_at is_known d part key default = at part key (flag_if is_known (get (name_of key) d) default)
+
+abbrev pub own_driver_or_at : Data → Part → Result Bool Fault
+own_driver_or_at d part = at part Driver (own_driver_or (get (name_of Driver) d))
+
+abbrev pub own_driver_if_at : Bool → Data → Part → Result Bool Fault
+own_driver_if_at is_known d part = at part Driver (own_driver_if is_known (get (name_of Driver) d))
 
 abbrev pub percents_or_at : Data → Part → Key → ℕ → Percents → Result Percents Fault
 percents_or_at d part key most default = at part key (percents_or (get (name_of key) d) most default)

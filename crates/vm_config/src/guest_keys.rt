@@ -5,7 +5,7 @@ ghost use Rattle.vm_config.specs.Located.{choices_at, pages_at, rates_at};
 ghost use Rattle.vm_config.specs.Versions.{AreLimits};
 
 use crate::fault::Fault;
-use crate::keys::{flag_if_known, flag_or_default, number, number_or_default};
+use crate::keys::{flag_if_known, flag_or_default, number, number_or_default, own_driver_if_known};
 use crate::place::{Key, Part};
 use crate::version::Limits;
 use vm_json::Value;
@@ -42,13 +42,14 @@ pub(crate) struct Rates {
     pub(crate) rate: u32,
 }
 
-// What a guest's generator begins with, whether it starts by itself, and whether it tells.
+// What a guest's generator begins with, whether it starts by itself, whether it tells, and whether it has a driver of its own.
 #[derive(Clone, Copy)]
 pub(crate) struct Choices {
     pub(crate) seed: u64,
     pub(crate) stream: u64,
     pub(crate) autostart: bool,
     pub(crate) tell: bool,
+    pub(crate) own_driver: bool,
 }
 
 #[tactic(auto, unfolding(crate::specs::Located::pages_at))]
@@ -95,10 +96,12 @@ pub(crate) fn choices_of(limits: &Limits, object: &Value<'_>, guest: Part) -> Re
     let stream = number_or_default(object, guest, Key::Stream, 0, u64::MAX, 0)?;
     let autostart = flag_or_default(object, guest, Key::Autostart, true)?;
     let tell = flag_if_known(limits.has_tell, object, guest, Key::Tell, true)?;
+    let own_driver = own_driver_if_known(limits.knows_version_3, object, guest)?;
     Ok(Choices {
         seed,
         stream,
         autostart,
         tell,
+        own_driver,
     })
 }

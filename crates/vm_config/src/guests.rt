@@ -65,13 +65,16 @@ fn guest<'a>(
     alloc: Global,
     limits: &Limits,
     quantum: u32,
+    page: u32,
     object: &Value<'a>,
     earlier: &Domains,
 ) -> Result<Named<'a>, Fault>
     requires limits { AreLimits limits.now }
     requires some_quantum { 1 ≤ quantum }
     requires short_quantum { quantum ≤ 65536 }
-    ensures guest { IsOrLacksMemory (listed_seen result) (guest_at limits.now quantum (view object.now) earlier.now) }
+    requires some_kib { 4 ≤ page }
+    requires few_kib { page ≤ 1048576 }
+    ensures guest { IsOrLacksMemory (listed_seen result) (guest_at limits.now quantum page (view object.now) earlier.now) }
     ensures new_name { IfOk result (λ named. position_of named.name.now earlier.now ≡ None) }
     ensures within { IfOk result (λ named. IsWithinLimits named.spec) }
 {
@@ -81,7 +84,7 @@ fn guest<'a>(
     let rates = rates_of(object, part)?;
     let choices = choices_of(limits, object, part)?;
     let texts = at(part, Key::Trace, texts_or_none(object, "trace", MAX_TRACE))?;
-    let trace = trace(alloc, limits.size as u32, pages.size, earlier.len(), texts);
+    let trace = trace(alloc, limits, pages.size, earlier.len(), texts);
     let trace = at(part, Key::Trace, trace)?;
     let spec = GuestSpec {
         size: pages.size,
@@ -94,6 +97,8 @@ fn guest<'a>(
         seed: choices.seed,
         stream: choices.stream,
         tell: choices.tell,
+        own_driver: choices.own_driver,
+        page,
         trace,
     };
     Ok(Named {
@@ -121,6 +126,7 @@ fn read_guest(
     alloc: Global,
     limits: &Limits,
     quantum: u32,
+    page: u32,
     object: Value<'_>,
     guests: &mut GuestList,
 ) -> Result<(), Fault>
@@ -128,10 +134,12 @@ fn read_guest(
     requires few { length guests.old.domains < 256 }
     requires some_quantum { 1 ≤ quantum }
     requires short_quantum { quantum ≤ 65536 }
-    ensures ok { OnOk result (Reads guests.old guests.new (guest_at limits.now quantum (view object.entry) guests.old.domains)) }
-    ensures err { IfErr result (λ e. IsOrLacksMemory (Err e) (guest_at limits.now quantum (view object.entry) guests.old.domains)) }
+    requires some_kib { 4 ≤ page }
+    requires few_kib { page ≤ 1048576 }
+    ensures ok { OnOk result (Reads guests.old guests.new (guest_at limits.now quantum page (view object.entry) guests.old.domains)) }
+    ensures err { IfErr result (λ e. IsOrLacksMemory (Err e) (guest_at limits.now quantum page (view object.entry) guests.old.domains)) }
 {
-    let guest = guest(alloc, limits, quantum, &object, &guests.domains)?;
+    let guest = guest(alloc, limits, quantum, page, &object, &guests.domains)?;
     add(guests, guest)?;
     Ok(())
 }
@@ -141,13 +149,16 @@ pub(crate) fn guests(
     alloc: Global,
     limits: &Limits,
     quantum: u32,
+    page: u32,
     objects: Vec<Value<'_>>,
 ) -> Result<GuestList, Fault>
     requires limits { AreLimits limits.now }
     requires few { vec_len objects ≤ 256 }
     requires some_quantum { 1 ≤ quantum }
     requires short_quantum { quantum ≤ 65536 }
-    ensures guests { IsOrLacksMemory result (guests_at limits.now quantum (map view objects.entry.items) no_guests) }
+    requires some_kib { 4 ≤ page }
+    requires few_kib { page ≤ 1048576 }
+    ensures guests { IsOrLacksMemory result (guests_at limits.now quantum page (map view objects.entry.items) no_guests) }
     ensures within { IfOk result (λ guests. AreWithinLimits guests.domains) }
     ensures few { IfOk result (λ guests. length guests.domains ≤ 256) }
     ensures autostart { IfOk result (λ guests. length guests.autostart ≡ length guests.domains) }
@@ -157,7 +168,7 @@ pub(crate) fn guests(
         autostart: Autostart::new(alloc),
     };
     for object in objects {
-        read_guest(alloc, limits, quantum, object, &mut guests)?;
+        read_guest(alloc, limits, quantum, page, object, &mut guests)?;
     }
     Ok(guests)
 }

@@ -5,9 +5,9 @@ ghost use Rattle.serde_json.specs.Data.{string};
 ghost use Rattle.vm_json.specs.View.{items_seen, view};
 ghost use Rattle.vm_config.specs.declared.error.ConfigError.TheVariants.{Kind};
 ghost use Rattle.vm_domains.specs.Machine.{AreFalling};
-ghost use Rattle.vm_config.specs.Keys.{among, falling_percents, is_object, is_text, is_whole, items_in, number_in, objects_in, objects_of, objects_or_none, percents_among, percents_in, text_in, text_of, texts_or_none};
+ghost use Rattle.vm_config.specs.Keys.{among, falling_percents, is_object, is_own, is_text, is_whole, items_in, number_in, objects_in, objects_of, objects_or_none, own_driver_in, percents_among, percents_in, text_in, text_of, texts_or_none};
 ghost use Rattle.vm_config.specs.Outcomes.{Answers};
-ghost use Rattle.vm_config.specs.Places.{flag_if_at, flag_or_at, number_at, number_or_at, percents_or_at};
+ghost use Rattle.vm_config.specs.Places.{flag_if_at, flag_or_at, number_at, number_if_at, number_or_at, own_driver_if_at, own_driver_or_at, percents_or_at};
 ghost use Rattle.std.specs.List.{list_all};
 
 use crate::error::ConfigError;
@@ -70,6 +70,28 @@ pub(crate) fn number_or_default(
     at(part, key, number)
 }
 
+// The same at a key that some versions do not know.
+pub(crate) fn number_if_known(
+    is_known: bool,
+    object: &Value<'_>,
+    part: Part,
+    key: Key,
+    least: u64,
+    greatest: u64,
+    default: u64,
+) -> Result<u64, Fault>
+    requires low { least ≤ default }
+    requires high { default ≤ greatest }
+    ensures value { result ≡ number_if_at is_known (view object.now) part key least greatest default }
+    ensures within { IfOk result (λ n. (least ≤ n) × (n ≤ greatest)) }
+{
+    if is_known {
+        number_or_default(object, part, key, least, greatest, default)
+    } else {
+        Ok(default)
+    }
+}
+
 // ---- truth values
 
 // The truth value at a key, or its default where there is none.
@@ -113,6 +135,54 @@ pub(crate) fn text<'a>(object: &Value<'a>, key: &str) -> Result<&'a str, ConfigE
 {
     let value = member(object, key).ok_or(ConfigError::Missing)?;
     vm_json::text(value).ok_or(ConfigError::Kind)
+}
+
+// ---- the driver of a guest
+
+// Whether a text names the guest's own driver, or none.
+fn is_own(text: &str) -> Result<bool, ConfigError>
+    ensures { result ≡ is_own text.now }
+{
+    if text == "own" {
+        return Ok(true);
+    }
+    if text == "none" {
+        return Ok(false);
+    }
+    Err(ConfigError::Range)
+}
+
+// Whether a value names the guest's own driver, or none.
+fn own_driver(value: &Value<'_>) -> Result<bool, ConfigError>
+    ensures { result ≡ own_driver_in (view value.now) }
+{
+    is_own(vm_json::text(value).ok_or(ConfigError::Kind)?)
+}
+
+// Whether a guest has a driver of its own, as it has where the key is absent.
+fn own_driver_or_default(object: &Value<'_>, guest: Part) -> Result<bool, Fault>
+    ensures { result ≡ own_driver_or_at (view object.now) guest }
+{
+    let is_own = match member(object, Key::Driver.name()) {
+        Some(value) => own_driver(value),
+        None => Ok(true),
+    };
+    at(guest, Key::Driver, is_own)
+}
+
+// The same where some versions do not know the key.
+pub(crate) fn own_driver_if_known(
+    is_known: bool,
+    object: &Value<'_>,
+    guest: Part,
+) -> Result<bool, Fault>
+    ensures { result ≡ own_driver_if_at is_known (view object.now) guest }
+{
+    if is_known {
+        own_driver_or_default(object, guest)
+    } else {
+        Ok(true)
+    }
 }
 
 // ---- arrays

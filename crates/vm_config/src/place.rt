@@ -21,6 +21,10 @@ pub enum Key {
     Percent,
     /// `page_rate` of the root.
     PageRate,
+    /// `rebalance` of the root, in version 3.
+    Rebalance,
+    /// `page` of the root, in version 3.
+    Page,
     /// `quantum` of the root.
     Quantum,
     /// `epochs` of the root.
@@ -49,8 +53,10 @@ pub enum Key {
     Stream,
     /// `autostart` of a guest.
     Autostart,
-    /// `tell` of a guest, in version 2.
+    /// `tell` of a guest, from version 2 on.
     Tell,
+    /// `driver` of a guest, in version 3.
+    Driver,
     /// `trace` of a guest.
     Trace,
     /// `at` of a command.
@@ -72,6 +78,8 @@ impl Key {
             Key::Tax => "tax",
             Key::Percent => "percent",
             Key::PageRate => "page_rate",
+            Key::Rebalance => "rebalance",
+            Key::Page => "page",
             Key::Quantum => "quantum",
             Key::Epochs => "epochs",
             Key::Guests => "guests",
@@ -87,6 +95,7 @@ impl Key {
             Key::Stream => "stream",
             Key::Autostart => "autostart",
             Key::Tell => "tell",
+            Key::Driver => "driver",
             Key::Trace => "trace",
             Key::At => "at",
             Key::Line => "line",

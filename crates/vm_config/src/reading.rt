@@ -13,7 +13,7 @@ ghost use Rattle.vm_config.specs.Outcomes.{IsOrMemory};
 ghost use Rattle.vm_config.specs.Places.{error_in, fault_in, IsOrLacksMemory};
 ghost use Rattle.vm_config.specs.Reading.{config_of, config_v1_of, data_in, root_in};
 ghost use Rattle.vm_config.specs.Seen.{data_of, root_seen};
-ghost use Rattle.vm_config.specs.Versions.{version_1, version_2, AreLimits};
+ghost use Rattle.vm_config.specs.Versions.{newer, version_1, version_2, version_3, AreLimits};
 
 use crate::commands::commands;
 use crate::config::{Config, ConfigV1};
@@ -21,13 +21,16 @@ use crate::error::ConfigError;
 use crate::fault::{Fault, at, in_text, without_place};
 use crate::guests::{GuestList, guests};
 use crate::keys::{number, number_or_default, objects, objects_or_none, take_objects};
-use crate::machine::machine;
+use crate::machine::{machine, page_of};
 use crate::migration::migrate;
 use crate::place::{Key, Part, Place};
-use crate::version::{Limits, VERSION_1, VERSION_2};
+use crate::version::{Limits, VERSION_1, VERSION_2, VERSION_3};
 use std::alloc::{AllocError, Global};
 use vm_domains::MachineSpec;
 use vm_json::{ReadError, Scratch, Value, is_object};
+
+// The newest version.
+const NEWEST: u64 = 3;
 
 const MAX_QUANTUM: u64 = 65536;
 
@@ -37,10 +40,11 @@ const MAX_EPOCHS: u64 = 10_000;
 
 const MAX_COMMANDS: usize = 10_000;
 
-// The machine, the steps of an epoch, and the epochs of a run.
+// The machine, what its pages stand for, the steps of an epoch, and the epochs of a run.
 #[derive(Clone, Copy)]
 struct Numbers {
     machine: MachineSpec,
+    page: u32,
     quantum: u32,
     epochs: u32,
 }
@@ -52,10 +56,12 @@ fn numbers_of(limits: &Limits, root: &Value<'_>) -> Result<Numbers, Fault>
     ensures numbers { result ≡ numbers_at limits.now (view root.now) }
     ensures tax { IfOk result (λ n. n.machine.tax ≤ limits.now.tax) }
     ensures percent { IfOk result (λ n. n.machine.percent.high ≤ limits.now.percent) }
+    ensures page { IfOk result (λ n. (4 ≤ n.page) × (n.page ≤ 1048576)) }
     ensures quantum { IfOk result (λ n. (1 ≤ n.quantum) × (n.quantum ≤ 65536)) }
     ensures epochs { IfOk result (λ n. n.epochs ≤ 10000) }
 {
     let machine = machine(limits, root)?;
+    let page = page_of(&machine);
     let quantum = number_or_default(
         root,
         Part::Root,
@@ -67,6 +73,7 @@ fn numbers_of(limits: &Limits, root: &Value<'_>) -> Result<Numbers, Fault>
     let epochs = number(root, Part::Root, Key::Epochs, 0, MAX_EPOCHS)?;
     Ok(Numbers {
         machine,
+        page,
         quantum: quantum as u32,
         epochs: epochs as u32,
     })
@@ -95,7 +102,13 @@ fn keys(alloc: Global, limits: &Limits, root: Value<'_>) -> Result<Config, Fault
         Key::Guests,
         take_objects(alloc, root, "guests", limits.guests),
     )?;
-    let GuestList { domains, autostart } = guests(alloc, limits, numbers.quantum, objects)?;
+    let GuestList { domains, autostart } = guests(
+        alloc,
+        limits,
+        numbers.quantum,
+        numbers.page,
+        objects,
+    )?;
     Ok(Config {
         machine: numbers.machine,
         epochs: numbers.epochs,
@@ -122,6 +135,26 @@ fn keys_v2(alloc: Global, root: Value<'_>) -> Result<Config, Fault>
     ensures limits { IfOk result IsConfig }
 {
     keys(alloc, &VERSION_2, root)
+}
+
+// The keys of version 3.
+#[tactic(auto, unfolding(crate::specs::Versions::version_3))]
+fn keys_v3(alloc: Global, root: Value<'_>) -> Result<Config, Fault>
+    ensures config { IsOrLacksMemory result (keys_at version_3 (view root.entry)) }
+    ensures limits { IfOk result IsConfig }
+{
+    keys(alloc, &VERSION_3, root)
+}
+
+// The keys of a version above 1.
+fn keys_newer(alloc: Global, version: u64, root: Value<'_>) -> Result<Config, Fault>
+    ensures config { IsOrLacksMemory result (keys_at (newer version) (view root.entry)) }
+    ensures limits { IfOk result IsConfig }
+{
+    if version == 2 {
+        return keys_v2(alloc, root);
+    }
+    keys_v3(alloc, root)
 }
 
 // The JSON value that the bytes are.
@@ -187,11 +220,12 @@ fn located(alloc: Global, bytes: &[u8]) -> Result<Config, Fault>
 {
     let mut scratch = Scratch::new(alloc);
     let root = root(alloc, bytes, &mut scratch)?;
-    if version(&root, 2)? == 1 {
+    let version = version(&root, NEWEST)?;
+    if version == 1 {
         let config = keys_v1(alloc, root)?;
         return Ok(migrate(config));
     }
-    keys_v2(alloc, root)
+    keys_newer(alloc, version, root)
 }
 
 /// Reads a configuration of version 1, as [`read_config`] does; another version is out of its range ([`ConfigError::Range`]).
@@ -202,24 +236,26 @@ pub fn read_config_v1(alloc: Global, bytes: &[u8]) -> Result<ConfigV1, ConfigErr
     without_place(located_v1(alloc, bytes))
 }
 
-/// Reads a configuration from a JSON text (RFC 8259), whose root is an object. Other keys than these are ignored, and so is `tell`
-/// in version 1, whose guests tell. A number is written with digits alone and is below 2^64.
+/// Reads a configuration from a JSON text (RFC 8259), whose root is an object. Other keys than these are ignored, and so are those that
+/// are not keys of its version, which mean their defaults. A number is written with digits alone and is below 2^64.
 ///
-/// | Key | Kind | Range, version 1 | Version 2 | Default |
+/// | Key | Kind | Range, version 1 | Versions 2 and 3 | Default |
 /// |---|---|---|---|---|
-/// | `version` | number | 1 or 2 | | required |
+/// | `version` | number | 1 | 2 or 3 | required |
 /// | `frames` | number, frames of 4096 bytes | 1 to 65536 | to 262144 | required |
 /// | `swap` | number, pages of 4096 bytes | 0 to 4194304 | to 67108864 | 0 |
 /// | `overhead` | number, frames for each running guest | 0 to 1024 | | 0 |
-/// | `tax` | number, percent; in version 2 hundredths of a percent | 0 to 99 | to 9999 | 75; 7500 |
-/// | `percent` | array of four numbers, none above the one before it; in version 2 hundredths | each 0 to 100 | to 10000 | `[6,4,2,1]`; `[600,400,200,100]` |
+/// | `tax` | number, percent; from version 2 on hundredths of a percent | 0 to 99 | to 9999 | 75; 7500 |
+/// | `percent` | array of four numbers, none above the one before it; from version 2 on hundredths | each 0 to 100 | to 10000 | `[6,4,2,1]`; `[600,400,200,100]` |
 /// | `page_rate` | number, frames for a guest and boundary | 1 to 256 | | 16 |
+/// | `rebalance` | number, pages that idle guests give at once to those who would pay more | not a key | in version 3 0 to 262144 | 0 |
+/// | `page` | number, KiB that a page stands for | not a key | in version 3 4 to 1048576 | 4 |
 /// | `quantum` | number, steps an epoch | 1 to 65536 | | 100 |
 /// | `epochs` | number | 0 to 10000 | | required |
 /// | `guests` | array of objects | 0 to 64 | to 256 | required |
 /// | `commands` | array of objects | 0 to 10000 | | none |
 ///
-/// | Key of a guest | Kind | Range, version 1 | Version 2 | Default |
+/// | Key of a guest | Kind | Range, version 1 | Versions 2 and 3 | Default |
 /// |---|---|---|---|---|
 /// | `name` | text | 1 to 32 letters, digits, `_`, `.`, `-`, the first no `-` | | required |
 /// | `size` | number, pages | 1 to 65536 | to 262144 | required |
@@ -232,6 +268,7 @@ pub fn read_config_v1(alloc: Global, bytes: &[u8]) -> Result<ConfigV1, ConfigErr
 /// | `stream` | number | 0 to 2^64 - 1 | | 0 |
 /// | `autostart` | truth value | | | true |
 /// | `tell` | truth value | not a key | known | true |
+/// | `driver` | text | not a key | in version 3 `own` or `none` | `own` |
 /// | `trace` | array of texts, each a step | 0 to 1000000 | | none |
 ///
 /// | Key of a command | Kind | Range | Default |
@@ -246,7 +283,8 @@ pub fn read_config_v1(alloc: Global, bytes: &[u8]) -> Result<ConfigV1, ConfigErr
 /// guest of the version, and its page is then below `size` ([`TraceError::Range`](vm_trace::TraceError::Range)).
 /// [`ConfigError::Memory`] may come in place of any answer.
 ///
-/// A configuration of version 1 is migrated: it is what [`migrate`] makes of what [`read_config_v1`] reads. Each guest keeps the
+/// A configuration of version 1 is migrated: it is what [`migrate`] makes of what [`read_config_v1`] reads. One of version 2 means what
+/// it means as version 3 ([`law_version_2`](crate::law_version_2)). Each guest has the quantum and the page of the root, and keeps the
 /// limits of [`GuestSpec`](vm_guest::GuestSpec), and the machine those of [`MachineSpec`](vm_domains::MachineSpec).
 pub fn read_config(alloc: Global, bytes: &[u8]) -> Result<Config, ConfigError>
     ensures config { IsOrMemory result (config_of bytes.now) }

@@ -5,7 +5,7 @@ ghost use Rattle.vm_config.specs.Limits.{IsConfig};
 ghost use Rattle.vm_config.specs.Settings.{greatest_of, least_of, setting_of, with_setting, IsInRange};
 
 use crate::config::Config;
-use crate::machine::MAX_PAGE_RATE;
+use crate::machine::{MAX_PAGE_RATE, MAX_REBALANCE};
 use crate::version::VERSION_2;
 use thiserror::Error;
 
@@ -20,6 +20,8 @@ pub enum Setting {
     Tax,
     /// The most frames that a guest gives up by paging in a boundary, 1 to 256.
     PageRate,
+    /// The most pages that a boundary moves from idle guests to those who would pay more for them, 0 to 262144.
+    Rebalance,
 }
 
 /// A value is not in the range of its setting, from `least` to `greatest`.
@@ -40,6 +42,7 @@ impl Setting {
             Setting::Swap => 0,
             Setting::Tax => 0,
             Setting::PageRate => 1,
+            Setting::Rebalance => 0,
         }
     }
 
@@ -52,6 +55,7 @@ impl Setting {
             Setting::Swap => VERSION_2.swap as u32,
             Setting::Tax => VERSION_2.tax as u32,
             Setting::PageRate => MAX_PAGE_RATE as u32,
+            Setting::Rebalance => MAX_REBALANCE as u32,
         }
     }
 }
@@ -66,6 +70,7 @@ impl Config {
             Setting::Swap => self.machine.swap,
             Setting::Tax => self.machine.tax,
             Setting::PageRate => self.machine.page_rate,
+            Setting::Rebalance => self.machine.rebalance,
         }
     }
 
@@ -90,6 +95,7 @@ impl Config {
             Setting::Swap => self.machine.swap = value,
             Setting::Tax => self.machine.tax = value,
             Setting::PageRate => self.machine.page_rate = value,
+            Setting::Rebalance => self.machine.rebalance = value,
         }
         Ok(())
     }

@@ -3,6 +3,7 @@ pub mod Scale
 pub mod Round
 pub mod Drawing
 pub mod Counts
+pub mod Page
 pub mod Curves
 pub mod Shapes
 pub mod Picture

@@ -115,8 +115,9 @@ impl Guest {
         work_ahead(&self.parts)
     }
 
-    /// Runs an epoch, unless the guest is blocked: its driver acts, it runs as many steps as its quantum says, idle ones after its
-    /// trace, up to one that stalls, and it tells which pages it used early. It takes no memory, and is no longer prepared.
+    /// Runs an epoch, unless the guest is blocked: a driver of its own acts, it runs as many steps as its quantum says, idle ones
+    /// after a yield and after its trace, up to one that stalls, and it tells which pages it used early. It takes no memory, and
+    /// is no longer prepared.
     pub fn run_epoch(&mut self)
         requires prepared { self.old.prepared ≡ true }
         requires nothing { HasNothingPosted self.old.guest }

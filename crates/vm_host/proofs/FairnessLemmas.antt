@@ -5,17 +5,20 @@ use Rattle.vm_commands.specs.declared.command.Command.TheVariants.{Start, Destro
 use Rattle.vm_guest.specs.Good.{IsGood}
 use Rattle.vm_host.specs.declared.boundary.Refusal.{Refusal}
 use Rattle.vm_host.specs.Boundary.{opened_boundary, revocations, settled}
-use Rattle.vm_host.specs.Commands.{after_line}
+use Rattle.vm_host.specs.Commands.{after_line, after_lines}
 use Rattle.vm_host.specs.Decisions.{Admitted, decision_on_line}
-use Rattle.vm_host.specs.Fairness.{AreFairLines, IsFairBoundary, IsFairCommand, IsFairDecision}
+use Rattle.vm_host.specs.Fairness.{AreFairLines, IsFairBoundary, IsFairCommand, IsFairDecision, IsFairRebalancing}
 use Rattle.vm_host.specs.Sound.{IsSoundWorld}
 use Rattle.vm_host.specs.World.{World}
 use Rattle.vm_host.proofs.LineLemmas.{sound-line, sound-lines}
-use Rattle.vm_host.proofs.SoundLemmas.{sound-opened_boundary}
+use Rattle.vm_host.proofs.PoolLemmas.{keeps-settled}
+use Rattle.vm_host.proofs.RebalanceLemmas.{gives-fairly}
+use Rattle.vm_host.proofs.SoundLemmas.{sound-opened_boundary, whole-of}
 use Rattle.vm_plan.specs.Revocation.{shortfall_of}
 use Rattle.vm_plan.proofs.ListLemmas.{revocation_list-meets}
 use Rattle.vm_pool.specs.Pool.{PoolView, EachGuest}
 use Rattle.vm_reclaim.specs.declared.room.Raise.{Raise}
+use Rattle.vm_reclaim.specs.Boundary.{pool_settled}
 use Rattle.vm_reclaim.specs.Fairness.{TakesFairly}
 use Rattle.vm_reclaim.specs.Policy.{Policy}
 use Rattle.vm_reclaim.specs.Room.{lacking_at, needed_to_start, raise_to, raised, revocations_for_room, with_surplus_back}
@@ -59,3 +62,12 @@ fair-bounded policy w lines sound =
       of_boundary = fair-boundary policy.tax wanted found.pool (revocations policy found)
           (revocation_list-meets policy.tax wanted rows (rows-shares found.pool.guests after.pool.good));
     }
+
+-- so is each page that it moves from guest to guest
+pub fair-rebalanced : (policy : Policy) (w : World) (lines : List (List ℕ)) → IsSoundWorld w → IsFairRebalancing policy w lines
+fair-rebalanced policy w lines sound =
+    let left = after_lines policy (opened_boundary w) lines in
+    let after = sound-lines policy (opened_boundary w) lines (sound-opened_boundary w sound) in
+    let found = settled policy w lines in
+    let kept = keeps-settled w.machine policy found.state left.pool (whole-of left after) in
+    record { gives = gives-fairly policy found.state (pool_settled policy found.state left.pool) kept.whole.sound.good }

@@ -7,7 +7,7 @@ use Rattle.vm_host.specs.declared.phase.Phase.TheVariants.{Ready}
 use Rattle.vm_host.specs.Boundary.{past_boundary_by, finished, opened_boundary, with_state_found}
 use Rattle.vm_host.specs.Commands.{after_line, after_lines, decided, obeyed_by}
 use Rattle.vm_host.specs.Decisions.{Admitted, decision_on_line}
-use Rattle.vm_host.proofs.SetupLemmas.{setup-settled}
+use Rattle.vm_host.proofs.SetupLemmas.{setup-balanced}
 use Rattle.vm_pool.specs.Pool.{PoolView}
 use Rattle.vm_reclaim.specs.Policy.{Policy}
 use Rattle.vm_reclaim.specs.Reclaim.{blocks_in}
@@ -63,7 +63,7 @@ configs-lines policy w (line ∷ lines) =
 configs-finished : (policy : Policy) (w : World) → (finished policy w).pool.configs ≡ w.pool.configs
 configs-finished policy w =
     let state = (with_state_found policy w).state in
-    (setup-settled policy state (blocks_in state) w.pool).configs
+    (setup-balanced policy state (blocks_in state) w.pool).configs
 
 pub configs-bounded : (policy : Policy) (w : World) (lines : List (List ℕ)) → (past_boundary_by policy w lines).pool.configs ≡ w.pool.configs
 configs-bounded policy w lines = configs-finished policy (after_lines policy (opened_boundary w) lines) ∙ configs-lines policy (opened_boundary w) lines

@@ -2,6 +2,7 @@ pub mod PolicyLemmas
 pub mod KeptLemmas
 pub mod FirstLemmas
 pub mod BookLemmas
+pub mod RebalanceLemmas
 pub mod PoolLemmas
 pub mod RefusedLemmas
 pub mod SetupLemmas

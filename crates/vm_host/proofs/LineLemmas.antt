@@ -1,5 +1,5 @@
 -- What lines and a whole boundary keep.
-use Rattle.std.proofs.Common.{◌≡◌, ℕ, List, [], ◌∷◌, Result, Ok, Err, refl, subst, sym}
+use Rattle.std.proofs.Common.{◌≡◌, ℕ, ◌≤◌, List, [], ◌∷◌, Result, Ok, Err, refl, subst, sym, arith}
 use Rattle.vm_commands.specs.declared.command.Command.{Command}
 use Rattle.vm_commands.specs.declared.error.LineFault.{LineFault}
 use Rattle.vm_commands.specs.LineGrammar.{AsksFor, Form, FormDestroy, FormMemory, FormMinimum, FormShares, FormStart, FormStatistics}
@@ -16,17 +16,21 @@ use Rattle.vm_host.proofs.SoundLemmas.{obeys, sound-finished, sound-opened_bound
 use Rattle.vm_reclaim.specs.Policy.{Policy}
 
 -- the number of a command that was read is one that a line can have
-asked-range : (form : Form) (command : Command) → AsksFor form command → IsInRange command
-asked-range (FormStart domain) command asks = subst IsInRange (sym asks) tt
-asked-range (FormDestroy domain) command asks = subst IsInRange (sym asks) tt
-asked-range (FormMemory domain size) command asks = subst IsInRange (sym asks.2) tt
-asked-range (FormMinimum domain size) command asks = subst IsInRange (sym asks.3) asks.2
-asked-range (FormShares domain number) command asks =
+asked-range : (page : ℕ) (form : Form) (command : Command) → AsksFor page form command → IsInRange command
+asked-range page (FormStart domain) command asks = subst IsInRange (sym asks) tt
+asked-range page (FormDestroy domain) command asks = subst IsInRange (sym asks) tt
+asked-range page (FormMemory domain size) command asks = subst IsInRange (sym asks.2) tt
+asked-range page (FormMinimum domain size) command asks = subst IsInRange (sym asks.3) asks.2
+asked-range page (FormShares domain number) command asks =
     let shares = asks.1 in subst IsInRange (sym asks.2) (shares.least, shares.most)
-asked-range (FormStatistics domain) command asks = subst IsInRange (sym asks) tt
+asked-range page (FormStatistics domain) command asks = subst IsInRange (sym asks) tt
 
-pub read-range : (line : List ℕ) (command : Command) → command_of line ≡ Ok command → IsInRange command
-read-range line command read = let is = IsLine-from_read line command read in asked-range is.form command is.asks
+pub read-range : (page : ℕ) (line : List ℕ) (command : Command) → 1 ≤ page → command_of page line ≡ Ok command → IsInRange command
+read-range page line command some read = let is = IsLine-from_read page line command some read in asked-range page is.form command is.asks
+
+-- a page of a machine stands for some KiB
+pub some-page : (w : World) (page : ℕ) → IsSoundWorld w → page ≡ w.machine.page → 1 ≤ page
+some-page w page sound same = let from = sound.machine.page_from in omega (arith, from, same)
 
 -- the command and its position, where it is admitted
 abbrev pub admitted_at : Command → Result ℕ Refusal → Result Admitted Refusal
@@ -37,13 +41,13 @@ pub sound-admitted : (policy : Policy) (w : World) (command : Command) (decision
 sound-admitted policy w command (Ok position) sound range is = (obeys policy.tax w command position sound range is).sound
 sound-admitted policy w command (Err refusal) sound range is = sound
 
-sound-read : (policy : Policy) (w : World) (line : List ℕ) (read : Result Command LineFault) → IsSoundWorld w → command_of line ≡ read
+sound-read : (policy : Policy) (w : World) (line : List ℕ) (read : Result Command LineFault) → IsSoundWorld w → command_of w.machine.page line ≡ read
     → IsSoundWorld (decided policy w (readable read >>= admission_of w))
-sound-read policy w line (Ok command) sound is = sound-admitted policy w command (decision_on w command) sound (read-range line command is) refl
+sound-read policy w line (Ok command) sound is = sound-admitted policy w command (decision_on w command) sound (read-range w.machine.page line command (some-page w w.machine.page sound refl) is) refl
 sound-read policy w line (Err fault) sound is = sound
 
 pub sound-line : (policy : Policy) (w : World) (line : List ℕ) → IsSoundWorld w → IsSoundWorld (after_line policy w line)
-sound-line policy w line sound = sound-read policy w line (command_of line) sound refl
+sound-line policy w line sound = sound-read policy w line (command_of w.machine.page line) sound refl
 
 pub sound-lines : (policy : Policy) (w : World) (lines : List (List ℕ)) → IsSoundWorld w → IsSoundWorld (after_lines policy w lines)
 sound-lines policy w [] sound = sound

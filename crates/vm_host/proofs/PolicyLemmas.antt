@@ -12,7 +12,8 @@ use Rattle.vm_plan.specs.State.{next_state_of}
 use Rattle.vm_host.specs.declared.boundary.Refusal.{Refusal}
 use Rattle.vm_reclaim.specs.declared.room.Raise.{Raise}
 use Rattle.vm_host.specs.Answers.{AnswerValue}
-use Rattle.vm_host.specs.Boundary.{past_boundary_by, boundary_done, finished, grants, opened_boundary, page_counts, revocations, done_after_lines, with_grants, with_orders, with_paging, with_revocations, with_state_found}
+use Rattle.vm_host.specs.Boundary.{past_boundary_by, boundary_done, finished, after_grants, grants, opened_boundary, page_counts, rebalances, revocations, done_after_lines, with_grants, with_orders, with_paging, with_rebalancing, with_revocations, with_state_found}
+use Rattle.vm_reclaim.specs.Rebalance.{rebalances_in}
 use Rattle.vm_reclaim.specs.Reclaim.{blocked_from, paged_from}
 use Rattle.vm_host.specs.Commands.{after_line, after_lines, answer_to, answers_to, decided, obeyed_by, outcome_of, revocations_by}
 use Rattle.vm_reclaim.specs.Room.{lacking_at, needed_to_start, raise_to}
@@ -31,6 +32,7 @@ pub record DecideAlike (p q : Policy) : Type 0 where
   pub page_rate : p.page_rate ≡ q.page_rate
   pub revocations : (wanted : ℕ) (rows : List Row) → revocation_list p.tax wanted rows ≡ revocation_list q.tax wanted rows
   pub grants : (state : State) (t : Thresholds) (pool : Pool) → grant_list state t p.tax pool ≡ grant_list state t q.tax pool
+  pub rebalances : (state : State) (pool : PoolView) → rebalances_in p state pool ≡ rebalances_in q state pool
 
 module _ (p q : Policy) (alike : DecideAlike p q) where
   revocations_for_room-alike : (raise : Option Raise) (needed : ℕ) (pool : PoolView) → revocations_for_room p.tax raise needed pool ≡ revocations_for_room q.tax raise needed pool
@@ -64,7 +66,7 @@ module _ (p q : Policy) (alike : DecideAlike p q) where
 
   answer-alike : (w : World) (line : List ℕ) (decision : Result Admitted Refusal) → answer_to p w line decision ≡ answer_to q w line decision
   answer-alike w line (Ok admitted) =
-      ap (λ moves. record { line = line; revocations = moves; outcome = outcome_of w.pool admitted.position admitted.command })
+      ap (λ moves. record { line = line; revocations = moves; outcome = outcome_of w.machine.page w.pool admitted.position admitted.command })
       (revocations_by-alike w.pool admitted.position admitted.command)
   answer-alike w line (Err refusal) = refl
 
@@ -108,6 +110,12 @@ module _ (p q : Policy) (alike : DecideAlike p q) where
   with_grants-alike : (w : World) → with_grants p w ≡ with_grants q w
   with_grants-alike w = ap (λ moves. with_pool w (fold granted_at w.pool moves)) (grants-alike w)
 
+  rebalances-alike : (w : World) → rebalances p w ≡ rebalances q w
+  rebalances-alike w = alike.rebalances w.state w.pool
+
+  with_rebalancing-alike : (w : World) → with_rebalancing p w ≡ with_rebalancing q w
+  with_rebalancing-alike w = ap (λ moves. with_pool w (fold (changed revoked) w.pool moves)) (rebalances-alike w)
+
   -- ---- the stages after the lines
 
   revoked-alike : (w : World) → with_revocations p (with_state_found p w) ≡ with_revocations q (with_state_found q w)
@@ -117,10 +125,13 @@ module _ (p q : Policy) (alike : DecideAlike p q) where
       → with_paging p (with_revocations p (with_state_found p w)) ≡ with_paging q (with_revocations q (with_state_found q w))
   paged-alike w = ap (with_paging p) (revoked-alike w) ∙ with_paging-alike (with_revocations q (with_state_found q w))
 
+  granted-alike : (w : World) → after_grants p (with_state_found p w) ≡ after_grants q (with_state_found q w)
+  granted-alike w = ap (with_grants p) (paged-alike w) ∙ with_grants-alike (with_paging q (with_revocations q (with_state_found q w)))
+
   finished-alike : (w : World) → finished p w ≡ finished q w
   finished-alike w =
-      ap (λ v. with_orders (with_grants p v)) (paged-alike w)
-      ∙ ap with_orders (with_grants-alike (with_paging q (with_revocations q (with_state_found q w))))
+      ap (λ v. with_orders (with_rebalancing p v)) (granted-alike w)
+      ∙ ap with_orders (with_rebalancing-alike (after_grants q (with_state_found q w)))
 
   told-alike : (w : World) (answers : List AnswerValue) → done_after_lines p w answers ≡ done_after_lines q w answers
   told-alike w answers =
@@ -133,6 +144,7 @@ module _ (p q : Policy) (alike : DecideAlike p q) where
         revoked = (ap (revocations p) (state-alike w) ∙ revocations-alike found) i;
         paged = paged_from 0 ((ap (page_counts p) (revoked-alike w) ∙ page_counts-alike left) i);
         granted = (ap (grants p) (paged-alike w) ∙ grants-alike (with_paging q left)) i;
+        rebalanced = (ap (rebalances p) (granted-alike w) ∙ rebalances-alike (after_grants q found)) i;
         blocked = blocked_from 0 (finished-alike w i).pool.guests;
       }
 

@@ -1,17 +1,21 @@
 -- What each change that a boundary makes of its pool keeps.
 use Rattle.std.proofs.Common.{◌≡◌, ◌∙◌, ℕ, ◌-◌, Bool, List, Option, length, fold, refl, arith}
 use Rattle.vm_domains.specs.Machine.{MachineConfig}
-use Rattle.vm_guest.specs.Boundary.{serviced}
+use Rattle.vm_guest.specs.Boundary.{revoked, serviced}
 use Rattle.vm_guest.specs.Good.{HasNothingPosted}
 use Rattle.vm_plan.specs.declared.state.State.{State}
 use Rattle.vm_plan.specs.Revocation.{shortfall_of}
 use Rattle.vm_plan.proofs.ListLemmas.{grant_list-meets, revocation_list-meets}
 use Rattle.vm_plan.proofs.Places.{grants_apply}
-use Rattle.vm_pool.specs.Changes.{all_changed, taken_at, with_orders, with_spares_back}
+use Rattle.vm_pool.specs.CanMove.{CanRevoke}
+use Rattle.vm_pool.specs.Changes.{all_changed, changed, taken_at, with_orders, with_spares_back}
 use Rattle.vm_pool.specs.Pool.{PoolView, Conserves, EachGuest}
+use Rattle.vm_host.proofs.RebalanceLemmas.{can-give}
 use Rattle.vm_reclaim.specs.declared.room.Raise.{Raise}
+use Rattle.vm_reclaim.specs.Boundary.{pool_balanced, pool_settled}
 use Rattle.vm_reclaim.specs.Making.{IsNeededFor}
 use Rattle.vm_reclaim.specs.Policy.{Policy}
+use Rattle.vm_reclaim.specs.Rebalance.{pool_rebalanced, rebalances_in}
 use Rattle.vm_reclaim.specs.Reclaim.{counts_of, grants_in, pool_granted, pool_paged, pool_revoked, revocations_in, blocks_in}
 use Rattle.vm_reclaim.specs.Room.{raised, room_made, surplus_counts, revocations_for_room, with_surplus_back}
 use Rattle.vm_reclaim.specs.Rows.{plan_pool_of, rows_of}
@@ -111,18 +115,20 @@ keeps-room machine tax raise needed pool is whole =
 
 -- ---- after the lines
 
+keeps-fallen : (machine : MachineConfig) (moves : List ℕ) (pool : PoolView) → CanRevoke pool moves → IsWhole pool → Keeps machine pool (fold (changed revoked) pool moves)
+keeps-fallen machine moves pool can whole = record {
+  setup = setup-all_revoked moves pool;
+  whole = record { sound = sound-all_revoked moves pool can whole.sound; adds_up = conserves-all_revoked moves pool whole.adds_up };
+  booked = books-all_revoked machine moves pool;
+  served = served-all_revoked moves pool;
+}
+
 keeps-revoked : (machine : MachineConfig) (policy : Policy) (state : State) (pool : PoolView) → IsWhole pool → Keeps machine pool (pool_revoked policy state pool)
 keeps-revoked machine policy state pool whole =
     let moves = revocations_in policy state pool in
     let wanted = shortfall_of state pool.free policy.thresholds (rows_of pool.guests) in
     let list = revocation_list-meets policy.tax wanted (rows_of pool.guests) (rows-shares pool.guests whole.sound.good) in
-    let can = can_revoke policy.tax pool moves (fair-boundary policy.tax wanted pool moves list) in
-    record {
-      setup = setup-all_revoked moves pool;
-      whole = record { sound = sound-all_revoked moves pool can whole.sound; adds_up = conserves-all_revoked moves pool whole.adds_up };
-      booked = books-all_revoked machine moves pool;
-      served = served-all_revoked moves pool;
-    }
+    keeps-fallen machine moves pool (can_revoke policy.tax pool moves (fair-boundary policy.tax wanted pool moves list)) whole
 
 keeps-paged : (machine : MachineConfig) (policy : Policy) (state : State) (pool : PoolView) → IsWhole pool → Keeps machine pool (pool_paged policy state pool)
 keeps-paged machine policy state pool whole =
@@ -158,20 +164,30 @@ keeps-orders machine blocks pool whole = record {
   served = served-orders blocks pool;
 }
 
--- the frames once targets fell, guests gave up frames, targets rose, and the guests have their orders
+keeps-rebalanced : (machine : MachineConfig) (policy : Policy) (state : State) (pool : PoolView) → IsWhole pool → Keeps machine pool (pool_rebalanced policy state pool)
+keeps-rebalanced machine policy state pool whole = keeps-fallen machine (rebalances_in policy state pool) pool (can-give policy state pool whole.sound.good) whole
+
+-- targets fell, guests gave up frames, and targets rose
+pub keeps-settled : (machine : MachineConfig) (policy : Policy) (state : State) (pool : PoolView) → IsWhole pool → Keeps machine pool (pool_settled policy state pool)
+keeps-settled machine policy state pool whole =
+    let fallen = pool_revoked policy state pool in
+    let paged = pool_paged policy state fallen in
+    let settled = pool_settled policy state pool in
+    let first = keeps-revoked machine policy state pool whole in
+    let second = keeps-paged machine policy state fallen first.whole in
+    let third = keeps-granted machine policy state paged second.whole in
+    keeps-then machine pool fallen settled first (keeps-then machine fallen paged settled second third)
+
+-- then they fell for guests that would pay more, and the guests have their orders
 abbrev pub pool_finished : Policy → State → PoolView → PoolView
-pool_finished policy state pool =
-    with_orders (blocks_in state) (pool_granted policy state (pool_paged policy state (pool_revoked policy state pool)))
+pool_finished policy state pool = with_orders (blocks_in state) (pool_balanced policy state pool)
 
 pub keeps-finished : (machine : MachineConfig) (policy : Policy) (state : State) (pool : PoolView) → IsWhole pool → Keeps machine pool (pool_finished policy state pool)
 keeps-finished machine policy state pool whole =
-    let revoked = pool_revoked policy state pool in
-    let paged = pool_paged policy state revoked in
-    let granted = pool_granted policy state paged in
-    let first = keeps-revoked machine policy state pool whole in
-    let second = keeps-paged machine policy state revoked first.whole in
-    let third = keeps-granted machine policy state paged second.whole in
-    let fourth = keeps-orders machine (blocks_in state) granted third.whole in
-    keeps-then machine pool revoked (pool_finished policy state pool) first
-    (keeps-then machine revoked paged (pool_finished policy state pool) second
-    (keeps-then machine paged granted (pool_finished policy state pool) third fourth))
+    let settled = pool_settled policy state pool in
+    let balanced = pool_balanced policy state pool in
+    let first = keeps-settled machine policy state pool whole in
+    let second = keeps-rebalanced machine policy state settled first.whole in
+    let third = keeps-orders machine (blocks_in state) balanced second.whole in
+    keeps-then machine pool settled (pool_finished policy state pool) first
+    (keeps-then machine settled balanced (pool_finished policy state pool) second third)

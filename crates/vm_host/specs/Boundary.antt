@@ -1,7 +1,7 @@
 -- A boundary comes before each epoch: what it does to a host, and what a report has of it. In this order the devices are served
 -- (OASIS VIRTIO 1.2, section 5.5.6), the spares above the targets come back, the lines are obeyed, the state is found, targets fall
--- (revocation), guests give up frames (paging), targets rise (grants), and the guests get their orders (Waldspurger, OSDI 2002,
--- section 6.3).
+-- (revocation), guests give up frames (paging), targets rise (grants), targets fall for guests that would pay more (rebalancing), and
+-- the guests get their orders (Waldspurger, OSDI 2002, section 6.3).
 use Rattle.std.specs.Prelude.{◌≡◌, ℕ, List, take}
 use Rattle.vm_guest.specs.Boundary.{serviced}
 use Rattle.vm_plan.specs.State.{next_state_of}
@@ -11,6 +11,7 @@ use Rattle.vm_host.specs.Answers.{AnswerValue}
 use Rattle.vm_host.specs.Commands.{after_lines, answers_to}
 use Rattle.vm_pool.specs.Changes.{all_changed, with_orders as all_ordered, with_spares_back}
 use Rattle.vm_reclaim.specs.Policy.{Policy, policy_of}
+use Rattle.vm_reclaim.specs.Rebalance.{pool_rebalanced, rebalances_in}
 use Rattle.vm_reclaim.specs.Reclaim.{blocked_from, counts_of, grants_in, paged_from, pool_granted, pool_paged, pool_revoked, revocations_in, blocks_in}
 use Rattle.vm_host.specs.World.{World, with_phase, with_pool}
 
@@ -45,16 +46,24 @@ grants policy w = grants_in policy w.state w.pool
 abbrev pub with_grants : Policy → World → World
 with_grants policy w = with_pool w (pool_granted policy w.state w.pool)
 
+-- a host whose state is found, once targets rose
+abbrev pub after_grants : Policy → World → World
+after_grants policy w = with_grants policy (with_paging policy (with_revocations policy w))
+
+-- the guests whose targets fall for guests that would pay more, once targets rose
+abbrev pub rebalances : Policy → World → List ℕ
+rebalances policy w = rebalances_in policy w.state w.pool
+
+abbrev pub with_rebalancing : Policy → World → World
+with_rebalancing policy w = with_pool w (pool_rebalanced policy w.state w.pool)
+
 -- each guest gets its orders for the epoch
 abbrev pub with_orders : World → World
 with_orders w = with_pool w (all_ordered (blocks_in w.state) w.pool)
 
--- ---- after the lines
-
 -- the host that its lines left, once all that follows is done
 abbrev pub finished : Policy → World → World
-finished policy w =
-    with_orders (with_grants policy (with_paging policy (with_revocations policy (with_state_found policy w))))
+finished policy w = with_orders (with_rebalancing policy (after_grants policy (with_state_found policy w)))
 
 -- ---- the whole
 
@@ -86,6 +95,7 @@ done_after_lines policy w answers =
     let settled_world = with_state_found policy w in
     let revoked_world = with_revocations policy settled_world in
     let paged_world = with_paging policy revoked_world in
+    let granted_world = with_grants policy paged_world in
     record {
       answers = answers;
       state = settled_world.state;
@@ -93,6 +103,7 @@ done_after_lines policy w answers =
       revoked = revocations policy settled_world;
       paged = paged_from 0 (page_counts policy revoked_world);
       granted = grants policy paged_world;
+      rebalanced = rebalances policy granted_world;
       blocked = blocked_from 0 (finished policy w).pool.guests;
     }
 

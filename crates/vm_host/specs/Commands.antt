@@ -44,25 +44,26 @@ obeyed_by tax pool position (ShowStatistics domain) = pool
 
 -- ---- answers
 
--- what virsh dommemstat prints: `actual` and `rss` in KiB (a page is 4 KiB), and what the driver told, its memory in bytes
-abbrev pub statistics_of : GuestRecord → DomainStatistics
-statistics_of g = record {
-  actual = (g.config.size - g.device.actual) * 4;
-  rss = g.memory.held * 4;
+-- What virsh dommemstat prints, where a page stands for so many KiB: `actual` and `rss` in KiB, and what the driver told, its memory in
+-- bytes. A driver may tell an `actual` above the guest's size: then 0 is printed.
+abbrev pub statistics_of : (page : ℕ) → GuestRecord → DomainStatistics
+statistics_of page g = record {
+  actual = (g.config.size - g.device.actual) * page;
+  rss = g.memory.held * page;
   stats = g.device.stats;
 }
 
-abbrev pub shown : Option GuestRecord → Outcome
-shown None = Done
-shown (Some g) = Shown (statistics_of g)
+abbrev pub shown : (page : ℕ) → Option GuestRecord → Outcome
+shown page None = Done
+shown page (Some g) = Shown (statistics_of page g)
 
-abbrev pub outcome_of : PoolView → ℕ → Command → Outcome
-outcome_of pool position (ShowStatistics domain) = shown (guest_in pool.guests position)
-outcome_of pool position (Start domain) = Done
-outcome_of pool position (Destroy domain) = Done
-outcome_of pool position (SetMemory domain cap) = Done
-outcome_of pool position (SetMinimum domain least) = Done
-outcome_of pool position (SetShares domain shares) = Done
+abbrev pub outcome_of : (page : ℕ) → PoolView → ℕ → Command → Outcome
+outcome_of page pool position (ShowStatistics domain) = shown page (guest_in pool.guests position)
+outcome_of page pool position (Start domain) = Done
+outcome_of page pool position (Destroy domain) = Done
+outcome_of page pool position (SetMemory domain cap) = Done
+outcome_of page pool position (SetMinimum domain least) = Done
+outcome_of page pool position (SetShares domain shares) = Done
 
 -- ---- lines
 
@@ -77,7 +78,7 @@ revocations_to policy w (Ok admitted) = revocations_by policy.tax w.pool admitte
 revocations_to policy w (Err refusal) = []
 
 abbrev pub outcome_to : World → Result Admitted Refusal → Outcome
-outcome_to w (Ok admitted) = outcome_of w.pool admitted.position admitted.command
+outcome_to w (Ok admitted) = outcome_of w.machine.page w.pool admitted.position admitted.command
 outcome_to w (Err refusal) = Refused refusal
 
 abbrev pub answer_to : Policy → World → List ℕ → Result Admitted Refusal → AnswerValue

@@ -148,5 +148,5 @@ admission_of w command = do
 -- what a line asks for, or why it is refused
 abbrev pub decision_on_line : World → List ℕ → Result Admitted Refusal
 decision_on_line w line = do
-  command ← readable (command_of line)
+  command ← readable (command_of w.machine.page line)
   admission_of w command

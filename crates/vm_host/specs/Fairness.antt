@@ -1,17 +1,18 @@
 -- Whose memory is taken, in the words of the subject: each revocation takes a page from a guest above its minimum whose adjusted ratio
--- of shares to pages is least (min-funding revocation with a tax on idle memory: Waldspurger, OSDI 2002, sections 5.1 and 5.2).
+-- of shares to pages is least (min-funding revocation with a tax on idle memory: Waldspurger, OSDI 2002, sections 5.1 and 5.2). And who
+-- gives pages to guests that would pay more (section 6.3).
 use Rattle.std.specs.Prelude.{ℕ, ⊤, List, [], ◌∷◌, None, Result, Ok, Err}
 use Rattle.vm_commands.specs.declared.command.Command.{Command}
 use Rattle.vm_commands.specs.declared.command.Command.TheVariants.{Start, Destroy, SetMemory, SetMinimum, SetShares, ShowStatistics}
 use Rattle.vm_guest.specs.Boundary.{revoked}
 use Rattle.vm_host.specs.declared.boundary.Refusal.{Refusal}
-use Rattle.vm_host.specs.Boundary.{opened_boundary, revocations, settled}
+use Rattle.vm_host.specs.Boundary.{after_grants, opened_boundary, rebalances, revocations, settled}
 use Rattle.vm_host.specs.Commands.{after_line}
 use Rattle.vm_reclaim.specs.Room.{lacking_at, needed_to_start, raise_to}
 use Rattle.vm_host.specs.Decisions.{Admitted, decision_on_line}
 use Rattle.vm_pool.specs.Changes.{changed}
 use Rattle.vm_pool.specs.Pool.{PoolView}
-use Rattle.vm_reclaim.specs.Fairness.{TakesFairly, TakesFromCheapest}
+use Rattle.vm_reclaim.specs.Fairness.{GivesFromCheapest, TakesFairly, TakesFromCheapest}
 use Rattle.vm_reclaim.specs.Policy.{Policy}
 use Rattle.vm_host.specs.World.{World}
 
@@ -44,3 +45,9 @@ AreFairLines policy w (line ∷ lines) =
 pub record IsFairBoundary (policy : Policy) (w : World) (lines : List (List ℕ)) : Type 0 where
   pub of_lines : AreFairLines policy (opened_boundary w) lines
   pub of_boundary : TakesFromCheapest policy.tax (changed revoked) (settled policy w lines).pool (revocations policy (settled policy w lines))
+
+-- Once its targets rose, each page that a boundary moves is given by a guest above its minimum and above what it uses, whose adjusted ratio
+-- is least of those that are, to the guest that would pay most for it, and more than that.
+pub record IsFairRebalancing (policy : Policy) (w : World) (lines : List (List ℕ)) : Type 0 where
+  pub gives : let granted = after_grants policy (settled policy w lines) in
+      GivesFromCheapest policy.tax granted.pool.guests (rebalances policy granted)

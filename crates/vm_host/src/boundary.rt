@@ -32,7 +32,7 @@ pub enum Refusal {
 /// What `virsh dommemstat` prints of a guest.
 #[derive(Clone, Copy, Debug, PartialEq, Eq)]
 pub struct DomainStatistics {
-    /// The memory that the balloon leaves the guest, in KiB: its size less the device's `actual`.
+    /// The memory that the balloon leaves the guest, in KiB: its size less the device's `actual`, and 0 where that is above the size.
     pub actual: u64,
     /// The memory that the guest holds, in KiB.
     pub rss: u64,
@@ -146,6 +146,8 @@ pub struct Boundary {
     pub paged: Paging,
     /// The positions of the guests whose targets rose, one for each page, in order.
     pub granted: Plan,
+    /// The positions of the guests whose targets fell for guests that would pay more, one for each page, in order.
+    pub rebalanced: Plan,
     /// The positions of the guests that are blocked, in order.
     pub blocked: Blocked,
 }

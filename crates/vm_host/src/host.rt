@@ -13,7 +13,7 @@ ghost use Rattle.vm_host.specs.declared.host.HostError.TheVariants.{Memory as No
 ghost use Rattle.vm_host.specs.declared.phase.Phase.TheVariants.{Waiting, Ready, Failed};
 ghost use Rattle.vm_host.specs.Boundary.{past_boundary, boundary_of, FailsAfterSome};
 ghost use Rattle.vm_host.specs.Epoch.{after_epoch};
-ghost use Rattle.vm_host.specs.Fairness.{IsFairBoundary};
+ghost use Rattle.vm_host.specs.Fairness.{IsFairBoundary, IsFairRebalancing};
 ghost use Rattle.vm_host.specs.Parts.{world_of};
 ghost use Rattle.vm_host.specs.Readers.{overhead_frames, page_at, peeked};
 ghost use Rattle.vm_host.specs.World.{first_world, guest_at, with_phase, Conserves, FailsFrom};
@@ -88,6 +88,8 @@ impl Host {
     ///   least (min-funding revocation, sections 5.1 and 5.2), until the goal is met or no guest is above its minimum.
     /// - Guests give up frames above their targets (paging, section 6.3), spares first.
     /// - Targets rise for guests that wait for pages.
+    /// - In `High` targets fall for guests that would pay more (rebalancing, section 6.3), each time that of the guest above its minimum
+    ///   and above what it uses whose adjusted ratio is least. What their balloons return is free at later boundaries.
     /// - Each running guest gets its orders, which end the reads of the last epoch. In `Low`, one above its target is blocked.
     ///
     /// It tells what became of each line, and what it did.
@@ -116,6 +118,7 @@ impl Host {
         // What it is for.
         ensures good { OnOk result (EachGuest IsGood self.new.pool) }
         ensures fair { OnOk result (IsFairBoundary (policy_of self.old.machine) self.old lines.now) }
+        ensures rebalanced { OnOk result (IsFairRebalancing (policy_of self.old.machine) self.old lines.now) }
     {
         if self.parts.phase == Phase::Failed {
             return Err(HostError::Failed);

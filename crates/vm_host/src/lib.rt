@@ -11,7 +11,8 @@
 //! and an admitted guest always gets its minimum: room is made for it at once. A refused command changes nothing.
 //!
 //! **Whose memory is taken** (sections 5.1 and 5.2). Each revocation takes a page from a guest above its minimum whose adjusted
-//! ratio of shares to pages is least, where pages that a guest leaves idle count for more.
+//! ratio of shares to pages is least, where pages that a guest leaves idle count for more. While memory is plenty, pages that a
+//! guest doesn't use move to those that would pay more for them, as many at a boundary as the machine allows (section 6.3).
 //!
 //! **How much is free** (section 6.3). Four states, from `High` to `Low`, say how hard memory is reclaimed: by targets that
 //! fall, by paging, and in `Low` by blocking guests above their targets.
@@ -23,7 +24,7 @@
 //! A clause sees a host as a `World` (`specs/World.antt`): its machine, the names of its domains, the pool of its frames and
 //! guests, state and phase. No frame is in it, so that the definitions of `past_boundary` (`specs/Boundary.antt`) and `after_epoch`
 //! are about plain data. After each call frames that are free, held and in overhead add up (`Conserves`), each running guest's
-//! record is good, and the revocations of a boundary were fair (`specs/Fairness.antt`).
+//! record is good, and the revocations and the rebalancing of a boundary were fair (`specs/Fairness.antt`).
 #![tactic(auto)]
 
 mod boundary;

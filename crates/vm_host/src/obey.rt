@@ -1,5 +1,5 @@
 // How command lines are obeyed.
-ghost use Rattle.std.specs.Prelude.{◌≡◌, ◌<◌, ◌≤◌, IfOk, OnErr, OnOk, None, length, map, string_bytes};
+ghost use Rattle.std.specs.Prelude.{◌≡◌, ◌*◌, ◌<◌, ◌≤◌, IfOk, OnErr, OnOk, None, length, map, string_bytes};
 ghost use Rattle.vm_pool.specs.Changes.{started_at, with_min_at};
 ghost use Rattle.vm_pool.specs.Pool.{guest_at};
 ghost use Rattle.vm_reclaim.specs.Making.{CanRaise, HasRoomToRaise, HasRoomToStart};
@@ -17,7 +17,7 @@ ghost use Rattle.vm_host.specs.World.{KeepsDomains};
 
 use crate::boundary::{Answer, DomainStatistics, Outcome, Refusal};
 use crate::decide::admit;
-use crate::parts::{Parts, tax_of};
+use crate::parts::{Parts, page_of, tax_of};
 use std::alloc::{AllocError, Global};
 use vm_admission::Books;
 use vm_commands::{Command, LineFault, parse_line};
@@ -123,9 +123,16 @@ fn obey(
     Ok(Plan::new(alloc))
 }
 
-// What `virsh dommemstat` prints of the guest at a position.
-fn shown(pool: &Pool, position: usize) -> Outcome
-    ensures { result ≡ shown (guest_at pool.now position) }
+// So many pages in KiB, where a page stands for `page` of them.
+fn kib_of(pages: u32, page: u32) -> u64
+    ensures { result ≡ pages * page }
+{
+    u64::from(pages) * u64::from(page)
+}
+
+// What `virsh dommemstat` prints of the guest at a position, where a page stands for so many KiB.
+fn shown(page: u32, pool: &Pool, position: usize) -> Outcome
+    ensures { result ≡ shown page (guest_at pool.now position) }
 {
     let Some(view) = pool.view(position) else {
         return Outcome::Done;
@@ -134,18 +141,18 @@ fn shown(pool: &Pool, position: usize) -> Outcome
         return Outcome::Done;
     };
     Outcome::Shown(DomainStatistics {
-        actual: u64::from(view.size.saturating_sub(view.actual)) * 4,
-        rss: u64::from(view.held) * 4,
+        actual: kib_of(view.size.saturating_sub(view.actual), page),
+        rss: kib_of(view.held, page),
         stats,
     })
 }
 
 // What becomes of a command that is obeyed.
-fn outcome_of(pool: &Pool, position: usize, command: &Command) -> Outcome
-    ensures { result ≡ outcome_of pool.now position command.now }
+fn outcome_of(page: u32, pool: &Pool, position: usize, command: &Command) -> Outcome
+    ensures { result ≡ outcome_of page pool.now position command.now }
 {
     match command {
-        Command::ShowStatistics { domain: _ } => shown(pool, position),
+        Command::ShowStatistics { domain: _ } => shown(page, pool, position),
         Command::Start { domain: _ } | Command::Destroy { domain: _ } => Outcome::Done,
         Command::SetMemory {
             domain: _,
@@ -181,8 +188,9 @@ fn answer_command(
 {
     match admit(parts, books, command) {
         Ok(position) => {
-            let outcome = outcome_of(&parts.pool, position, command);
+            let page = page_of(parts);
             let tax = tax_of(parts);
+            let outcome = outcome_of(page, &parts.pool, position, command);
             let plan = obey(alloc, tax, &mut parts.pool, position, command)?;
             Ok((plan, outcome))
         }
@@ -206,7 +214,8 @@ fn answer_line(
     ensures unchanged { OnErr result (world_of parts.new ≡ world_of parts.old) }
     ensures kept { KeepsDomains (world_of parts.old) (world_of parts.new) }
 {
-    match parse_line(alloc, line) {
+    let page = page_of(parts);
+    match parse_line(alloc, line, page) {
         Ok(command) => answer_command(alloc, parts, books, &command),
         Err(LineFault::Bad) => Ok((Plan::new(alloc), Outcome::Refused(Refusal::BadLine))),
         Err(LineFault::Size) => Ok((Plan::new(alloc), Outcome::Refused(Refusal::BadSize))),

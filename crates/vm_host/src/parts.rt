@@ -20,3 +20,10 @@ pub(crate) fn tax_of(parts: &Parts) -> u32
 {
     parts.spec.tax
 }
+
+// The KiB that a page stands for.
+pub(crate) fn page_of(parts: &Parts) -> u32
+    ensures { result ≡ parts.now.spec.page }
+{
+    parts.spec.page
+}

@@ -49,6 +49,7 @@ fn settle(alloc: Global, parts: &mut Parts, answers: Vec<Answer>) -> Result<Boun
         revoked: plan.revoked,
         paged: plan.paged,
         granted: plan.granted,
+        rebalanced: plan.rebalanced,
         blocked: plan.blocked,
     })
 }

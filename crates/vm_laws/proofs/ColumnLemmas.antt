@@ -16,8 +16,8 @@ use Rattle.vm_sim.specs.Course.{course_of}
 use Rattle.vm_sim.specs.Report.{name_at}
 use Rattle.vm_tally.specs.Counting.{one_if, sum_each, sum_over}
 use Rattle.vm_tally.specs.Counts.{has_stalled, is_for_frames, is_for_swap, is_hard, is_high, is_low, is_refused, is_soft, over_guests, paged, refused, revoked, swapped_of}
-use Rattle.vm_tally.specs.Summary.{after_in, blocked_in, granted_in, hard_in, high_in, low_in, no_memory_in, no_swap_in, paged_in, ready_in, revoked_in, soft_in, stalls_in, summary_after, told_in}
-use Rattle.vm_laws.specs.Columns.{AddsUpLines, balloon_at_end, blocking, found, granting, paging, refusing, revoking, stalling, swapped_at_end}
+use Rattle.vm_tally.specs.Summary.{after_in, blocked_in, granted_in, hard_in, high_in, low_in, no_memory_in, no_swap_in, paged_in, ready_in, rebalanced_in, revoked_in, soft_in, stalls_in, summary_after, told_in}
+use Rattle.vm_laws.specs.Columns.{AddsUpLines, balloon_at_end, blocking, found, granting, paging, rebalancing, refusing, revoking, stalling, swapped_at_end}
 use Rattle.vm_laws.specs.ReportLines.{ReportLine, guest_at_end, lines_at_end, lines_in, lines_of_boundary, lines_of_epoch, lines_of_guest, stalls_of}
 use Rattle.vm_laws.specs.ReportLines.ReportLine.{End, Guest, Machine, Read, Stall}
 use Rattle.vm_laws.proofs.LineLemmas.{answer_sum, end-zero, epoch-zero, of-boundary, of-end, of-epoch, of-guest, of-lines}
@@ -29,49 +29,54 @@ module _ (w : World) (k : ℕ) (b : Boundary) where
   found-boundary : (is_such : State → Bool) → sum_each (found is_such) (lines_of_boundary w k b) ≡ one_if (is_such b.state)
   found-boundary is_such =
       let answers = sum-zero (answer_sum (found is_such) w) b.answers (λ a. omega (arith, sum-none (stretches_of a.revocations))) in
-      omega (arith, of-boundary (found is_such) w k b, answers, sum-none (stretches_of b.revoked), sum-none b.paged, sum-none (stretches_of b.granted), sum-none b.blocked)
+      omega (arith, of-boundary (found is_such) w k b, answers, sum-none (stretches_of b.revoked), sum-none b.paged, sum-none (stretches_of b.granted), sum-none (stretches_of b.rebalanced), sum-none b.blocked)
 
   refusing-boundary : (cause : Refusal → Bool) → sum_each (refusing cause) (lines_of_boundary w k b) ≡ refused cause b
   refusing-boundary cause =
       let answers = sum-same (answer_sum (refusing cause) w) (λ a. one_if (is_refused cause a.outcome)) b.answers
       (λ a. omega (arith, sum-none (stretches_of a.revocations))) in
-      omega (arith, of-boundary (refusing cause) w k b, answers, sum-none (stretches_of b.revoked), sum-none b.paged, sum-none (stretches_of b.granted), sum-none b.blocked)
+      omega (arith, of-boundary (refusing cause) w k b, answers, sum-none (stretches_of b.revoked), sum-none b.paged, sum-none (stretches_of b.granted), sum-none (stretches_of b.rebalanced), sum-none b.blocked)
 
   revoking-boundary : sum_each revoking (lines_of_boundary w k b) ≡ revoked b
   revoking-boundary =
       let answers = sum-same (answer_sum revoking w) (λ a. length a.revocations) b.answers (λ a. omega (arith, pages-stretches a.revocations)) in
-      omega (arith, of-boundary revoking w k b, answers, pages-stretches b.revoked, sum-none b.paged, sum-none (stretches_of b.granted), sum-none b.blocked)
+      omega (arith, of-boundary revoking w k b, answers, pages-stretches b.revoked, sum-none b.paged, sum-none (stretches_of b.granted), sum-none (stretches_of b.rebalanced), sum-none b.blocked)
 
   paging-boundary : sum_each paging (lines_of_boundary w k b) ≡ paged b
   paging-boundary =
       let answers = sum-zero (answer_sum paging w) b.answers (λ a. omega (arith, sum-none (stretches_of a.revocations))) in
-      omega (arith, of-boundary paging w k b, answers, sum-none (stretches_of b.revoked), sum-none (stretches_of b.granted), sum-none b.blocked)
+      omega (arith, of-boundary paging w k b, answers, sum-none (stretches_of b.revoked), sum-none (stretches_of b.granted), sum-none (stretches_of b.rebalanced), sum-none b.blocked)
 
   granting-boundary : sum_each granting (lines_of_boundary w k b) ≡ length b.granted
   granting-boundary =
       let answers = sum-zero (answer_sum granting w) b.answers (λ a. omega (arith, sum-none (stretches_of a.revocations))) in
-      omega (arith, of-boundary granting w k b, answers, sum-none (stretches_of b.revoked), sum-none b.paged, pages-stretches b.granted, sum-none b.blocked)
+      omega (arith, of-boundary granting w k b, answers, sum-none (stretches_of b.revoked), sum-none b.paged, pages-stretches b.granted, sum-none (stretches_of b.rebalanced), sum-none b.blocked)
+
+  rebalancing-boundary : sum_each rebalancing (lines_of_boundary w k b) ≡ length b.rebalanced
+  rebalancing-boundary =
+      let answers = sum-zero (answer_sum rebalancing w) b.answers (λ a. omega (arith, sum-none (stretches_of a.revocations))) in
+      omega (arith, of-boundary rebalancing w k b, answers, sum-none (stretches_of b.revoked), sum-none b.paged, sum-none (stretches_of b.granted), pages-stretches b.rebalanced, sum-none b.blocked)
 
   blocking-boundary : sum_each blocking (lines_of_boundary w k b) ≡ length b.blocked
   blocking-boundary =
       let answers = sum-zero (answer_sum blocking w) b.answers (λ a. omega (arith, sum-none (stretches_of a.revocations))) in
-      omega (arith, of-boundary blocking w k b, answers, sum-none (stretches_of b.revoked), sum-none b.paged, sum-none (stretches_of b.granted), sum-ones b.blocked)
+      omega (arith, of-boundary blocking w k b, answers, sum-none (stretches_of b.revoked), sum-none b.paged, sum-none (stretches_of b.granted), sum-none (stretches_of b.rebalanced), sum-ones b.blocked)
 
   -- no line of a boundary counts for what an epoch or the end tells
   stalling-boundary : sum_each stalling (lines_of_boundary w k b) ≡ 0
   stalling-boundary =
       let answers = sum-zero (answer_sum stalling w) b.answers (λ a. omega (arith, sum-none (stretches_of a.revocations))) in
-      omega (arith, of-boundary stalling w k b, answers, sum-none (stretches_of b.revoked), sum-none b.paged, sum-none (stretches_of b.granted), sum-none b.blocked)
+      omega (arith, of-boundary stalling w k b, answers, sum-none (stretches_of b.revoked), sum-none b.paged, sum-none (stretches_of b.granted), sum-none (stretches_of b.rebalanced), sum-none b.blocked)
 
   swapped-boundary : sum_each swapped_at_end (lines_of_boundary w k b) ≡ 0
   swapped-boundary =
       let answers = sum-zero (answer_sum swapped_at_end w) b.answers (λ a. omega (arith, sum-none (stretches_of a.revocations))) in
-      omega (arith, of-boundary swapped_at_end w k b, answers, sum-none (stretches_of b.revoked), sum-none b.paged, sum-none (stretches_of b.granted), sum-none b.blocked)
+      omega (arith, of-boundary swapped_at_end w k b, answers, sum-none (stretches_of b.revoked), sum-none b.paged, sum-none (stretches_of b.granted), sum-none (stretches_of b.rebalanced), sum-none b.blocked)
 
   balloon-boundary : sum_each balloon_at_end (lines_of_boundary w k b) ≡ 0
   balloon-boundary =
       let answers = sum-zero (answer_sum balloon_at_end w) b.answers (λ a. omega (arith, sum-none (stretches_of a.revocations))) in
-      omega (arith, of-boundary balloon_at_end w k b, answers, sum-none (stretches_of b.revoked), sum-none b.paged, sum-none (stretches_of b.granted), sum-none b.blocked)
+      omega (arith, of-boundary balloon_at_end w k b, answers, sum-none (stretches_of b.revoked), sum-none b.paged, sum-none (stretches_of b.granted), sum-none (stretches_of b.rebalanced), sum-none b.blocked)
 
 -- ---- what an epoch counts
 
@@ -173,6 +178,7 @@ adds-up-lines c =
       revoked = told-column course revoking (revoked_in course) (λ k. revoking-boundary (ready_in course k) k (told_in course k)) (λ name read. refl) (λ name page. refl) refl (λ name view. refl) (λ w. refl);
       paged = told-column course paging (paged_in course) (λ k. paging-boundary (ready_in course k) k (told_in course k)) (λ name read. refl) (λ name page. refl) refl (λ name view. refl) (λ w. refl);
       granted = told-column course granting (granted_in course) (λ k. granting-boundary (ready_in course k) k (told_in course k)) (λ name read. refl) (λ name page. refl) refl (λ name view. refl) (λ w. refl);
+      rebalanced = told-column course rebalancing (rebalanced_in course) (λ k. rebalancing-boundary (ready_in course k) k (told_in course k)) (λ name read. refl) (λ name page. refl) refl (λ name view. refl) (λ w. refl);
       blocked = told-column course blocking (blocked_in course) (λ k. blocking-boundary (ready_in course k) k (told_in course k)) (λ name read. refl) (λ name page. refl) refl (λ name view. refl) (λ w. refl);
       stalls = stalls-column course;
       swapped = swapped-column course;

@@ -59,7 +59,7 @@ small-range n are =
 
 module _ (settings : Settings) (texts : List (List ℕ)) (steps : List Action) (n : Numbers) (are : AreInRange n)
     (named : is_name settings.name ≡ true) (few : length texts ≤ 1000000)
-    (read_as : steps_from 262144 n.size 0 texts [] ≡ Ok steps) where
+    (read_as : steps_from version_2 n.size 0 0 texts [] ≡ Ok steps) where
   abbrev listed : Listed
   listed = record {
     domain = record {
@@ -75,13 +75,15 @@ module _ (settings : Settings) (texts : List (List ℕ)) (steps : List Action) (
         seed = 0;
         stream = 0;
         tell = true;
+        own_driver = true;
+        page = 4;
         trace = steps;
       };
     };
     autostart = true;
   }
 
-  guest-read : listed_in version_2 n.quantum (guest_data settings.name texts n) [] ≡ Ok listed
+  guest-read : listed_in version_2 n.quantum 4 (guest_data settings.name texts n) [] ≡ Ok listed
   unfolding listed_in version_2
   guest-read =
       rw (
@@ -103,6 +105,8 @@ module _ (settings : Settings) (texts : List (List ℕ)) (steps : List Action) (
       tax = 7500;
       percent = record { high = 600; soft = 400; hard = 200; low = 100 };
       page_rate = 16;
+      rebalance = 0;
+      page = 4;
     };
     epochs = n.epochs;
     domains = listed.domain ∷ [];

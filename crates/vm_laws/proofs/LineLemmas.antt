@@ -15,7 +15,7 @@ use Rattle.vm_sim.specs.Report.{name_at, positions}
 use Rattle.vm_tally.specs.Counting.{sum_each, sum_over}
 use Rattle.vm_tally.specs.Summary.{after_in, ready_in, told_in}
 use Rattle.vm_laws.specs.ReportLines.{ReportLine, blocked_at, guest_at_end, lines_at, lines_at_end, lines_before, lines_in, lines_of_answer, lines_of_boundary, lines_of_epoch, lines_of_guest, moved, paged_at, reads_of, stalls_of}
-use Rattle.vm_laws.specs.ReportLines.ReportLine.{Answer, Command, End, Epoch, Found, Grant, Guest, Machine, Read, Revoke, Stall}
+use Rattle.vm_laws.specs.ReportLines.ReportLine.{Answer, Command, End, Epoch, Found, Grant, Guest, Machine, Read, Rebalance, Revoke, Stall}
 use Rattle.vm_laws.proofs.SumLemmas.{over-same, over-zero, sum-append, sum-flat_map, sum-map, sum-range, sum-zero}
 
 module _ (f : ReportLine → ℕ) where
@@ -37,10 +37,12 @@ module _ (f : ReportLine → ℕ) where
 
   pub of-boundary : (w : World) (k : ℕ) (b : Boundary) → sum_each f (lines_of_boundary w k b)
       ≡ f (Epoch k) + sum_each (answer_sum w) b.answers + f (Found b.state b.free) + moves_sum w Revoke b.revoked
-      + sum_each (λ p. f (paged_at w p)) b.paged + moves_sum w Grant b.granted + sum_each (λ p. f (blocked_at w p)) b.blocked
+      + sum_each (λ p. f (paged_at w p)) b.paged + moves_sum w Grant b.granted + moves_sum w Rebalance b.rebalanced
+      + sum_each (λ p. f (blocked_at w p)) b.blocked
   of-boundary w k b =
       let answers = sum-flat_map f (lines_of_answer w) b.answers ∙ (λ i. sum_each (λ a. of-answer w a i) b.answers) in
-      let given = map (blocked_at w) b.blocked in
+      let waits = map (blocked_at w) b.blocked in
+      let given = moved w Rebalance b.rebalanced ++ waits in
       let paid = moved w Grant b.granted ++ given in
       let taken = map (paged_at w) b.paged ++ paid in
       omega (
@@ -50,9 +52,11 @@ module _ (f : ReportLine → ℕ) where
         sum-append f (moved w Revoke b.revoked) taken,
         sum-append f (map (paged_at w) b.paged) paid,
         sum-append f (moved w Grant b.granted) given,
+        sum-append f (moved w Rebalance b.rebalanced) waits,
         of-moves w Revoke b.revoked,
         sum-map f (paged_at w) b.paged,
         of-moves w Grant b.granted,
+        of-moves w Rebalance b.rebalanced,
         sum-map f (blocked_at w) b.blocked,
       )
 

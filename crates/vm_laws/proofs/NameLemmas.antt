@@ -13,7 +13,7 @@ use Rattle.vm_config.specs.Migration.{migrated}
 use Rattle.vm_config.specs.Names.{is_name, is_name_byte}
 use Rattle.vm_config.specs.Outcomes.{◌>>=◌}
 use Rattle.vm_config.specs.Reading.{commands_from, config_in, config_of, fresh_name, listed_in, guests_from, keys_in, machine_in, name_in, root_in, version_in}
-use Rattle.vm_config.specs.Versions.{version_1, version_2}
+use Rattle.vm_config.specs.Versions.{version_1, newer}
 use Rattle.vm_domains.specs.Domains.{Domain, names_of, position_of}
 use Rattle.vm_tally.specs.GuestTable.{name_at}
 use Rattle.vm_laws.specs.Plain.{HasPlainNames, IsPlain, needs_quotes}
@@ -82,9 +82,9 @@ fresh-is_name earlier name = go (is_name name) (is_some (position_of name earlie
 name-read : (earlier : List Domain) (found : Option Data) → IfOk (name_in earlier found) HasName
 name-read earlier found = next-ok (List ℕ) HasName (List ℕ) (text_in found) (fresh_name earlier) (fresh-is_name earlier)
 
-guest-read : (limits : _) (quantum : ℕ) (d : Data) (earlier : List Domain) → IfOk (listed_in limits quantum d earlier) IsNamed
+guest-read : (limits : _) (quantum page : ℕ) (d : Data) (earlier : List Domain) → IfOk (listed_in limits quantum page d earlier) IsNamed
 unfolding listed_in
-guest-read limits quantum d earlier =
+guest-read limits quantum page d earlier =
     known-ok Listed IsNamed (List ℕ) (name_in earlier (get (codes "name") d)) HasName _ (name-read earlier (get (codes "name") d))
     (λ name named. search (next-ok Listed IsNamed, named) depth 30)
 
@@ -92,12 +92,12 @@ named-more : (ds : List Domain) (d : Domain) → AreNamed ds → HasName d.name 
 named-more [] d are is = (is, tt)
 named-more (first ∷ ds) d are is = (are.0, named-more ds d are.1 is)
 
-guests-read : (limits : _) (quantum : ℕ) (ds : List Data) (domains : List Domain) (autostart : List Bool) → AreNamed domains
-    → IfOk (guests_from limits quantum ds (record { domains = domains; autostart = autostart })) (λ g. AreNamed g.domains)
-guests-read limits quantum [] domains autostart are = are
-guests-read limits quantum (d ∷ ds) domains autostart are =
-    known-ok _ (λ g. AreNamed g.domains) Listed (listed_in limits quantum d domains) IsNamed _ (guest-read limits quantum d domains)
-    (λ listed named. guests-read limits quantum ds (domains ++ listed.domain ∷ []) (autostart ++ listed.autostart ∷ []) (named-more domains listed.domain are named))
+guests-read : (limits : _) (quantum page : ℕ) (ds : List Data) (domains : List Domain) (autostart : List Bool) → AreNamed domains
+    → IfOk (guests_from limits quantum page ds (record { domains = domains; autostart = autostart })) (λ g. AreNamed g.domains)
+guests-read limits quantum page [] domains autostart are = are
+guests-read limits quantum page (d ∷ ds) domains autostart are =
+    known-ok _ (λ g. AreNamed g.domains) Listed (listed_in limits quantum page d domains) IsNamed _ (guest-read limits quantum page d domains)
+    (λ listed named. guests-read limits quantum page ds (domains ++ listed.domain ∷ []) (autostart ++ listed.autostart ∷ []) (named-more domains listed.domain are named))
 
 -- the rest of a configuration, once its guests are read
 keys-read : (limits : _) (d : Data) → IfOk (keys_in limits d) NamesAll
@@ -108,19 +108,19 @@ keys-read limits d =
     (λ quantum. next-ok Config NamesAll _ (required_number (get (codes "epochs") d) 0 10000) _
     (λ epochs. next-ok Config NamesAll _ (objects_in limits.guests (get (codes "guests") d)) _
     (λ objects. next-ok Config NamesAll _ (objects_or_none 10000 (get (codes "commands") d)) _
-    (λ schedule. known-ok Config NamesAll _ (guests_from limits quantum objects no_guests) (λ g. AreNamed g.domains) _ (guests-read limits quantum objects [] [] tt)
+    (λ schedule. known-ok Config NamesAll _ (guests_from limits quantum machine.page objects no_guests) (λ g. AreNamed g.domains) _ (guests-read limits quantum machine.page objects [] [] tt)
     (λ guests named. next-ok Config NamesAll _ (commands_from schedule []) _ (λ commands. named)))))))
 
 config-read : (version : ℕ) (root : Data) → IfOk (config_in version root) NamesAll
 config-read version root = go (version == 1)
   where
-    go : (b : Bool) → IfOk (if b then keys_in version_1 root >>= (λ c. Ok (migrated c)) else keys_in version_2 root) NamesAll
+    go : (b : Bool) → IfOk (if b then keys_in version_1 root >>= (λ c. Ok (migrated c)) else keys_in (newer version) root) NamesAll
     go true = known-ok Config NamesAll Config (keys_in version_1 root) NamesAll (λ c. Ok (migrated c)) (keys-read version_1 root) (λ c are. are)
-    go false = keys-read version_2 root
+    go false = keys-read (newer version) root
 
 all-read : (text : List ℕ) → IfOk (config_of text) NamesAll
 all-read text =
-    next-ok Config NamesAll Data (root_in text) _ (λ root. next-ok Config NamesAll ℕ (version_in 2 root) _ (λ version. config-read version root))
+    next-ok Config NamesAll Data (root_in text) _ (λ root. next-ok Config NamesAll ℕ (version_in 3 root) _ (λ version. config-read version root))
 
 -- ---- in a table
 

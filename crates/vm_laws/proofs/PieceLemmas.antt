@@ -1,13 +1,14 @@
 -- Pages in swap, from piece to piece of an epoch.
-use Rattle.std.proofs.Common.{◌≡◌, ℕ, zero, suc, ◌+◌, ◌-◌, ◌<◌, ◌≤◌, Bool, true, false, List, [], ◌∷◌, ◌++◌, Option, Some, None, length, map, nat_le, nat_lt, if◌then◌else◌, get_or, refl, sym, ap, ◌∙◌, subst, inl, inr, arith}
+use Rattle.std.proofs.Common.{◌≡◌, ℕ, zero, suc, ◌+◌, ◌-◌, ◌<◌, ◌≤◌, Bool, true, false, List, [], ◌∷◌, ◌++◌, Option, Some, None, is_some, length, map, nat_le, nat_lt, if◌then◌else◌, get_or, refl, sym, ap, ◌∙◌, subst, inl, inr, arith}
 use Rattle.std.proofs.lemmas.Bool.{cases_lt, ltb-true}
 use Rattle.vm_balloon.specs.Device.{with_early_use}
+use Rattle.vm_guest.specs.Config.{must_tell}
 use Rattle.vm_guest.specs.Epoch.{closed}
 use Rattle.vm_guest.specs.Good.{HasNothingPosted, IsGood, IsMemory, IsSound}
 use Rattle.vm_guest.specs.Memory.{Memory, has_spare, is_out_place, is_resident, resident, swapped, with_place, without_victim}
 use Rattle.vm_guest.specs.Pieces.{after_pieces, piece, pieces}
 use Rattle.vm_guest.specs.Record.{GuestRecord, is_ballooned}
-use Rattle.vm_guest.specs.Steps.{after_step, current_step, effect, executed, has_stalled, most_raw_posts, one_step, sampled, stall_of}
+use Rattle.vm_guest.specs.Steps.{after_step, current_step, effect, executed, has_stalled, most_raw_posts, next_step, one_step, sampled, stall_of}
 use Rattle.vm_guest.specs.Touch.{evicted, framed, with_demand, marked_used, placed_in, taken_early, touched}
 use Rattle.vm_guest.proofs.MemoryLemmas.{all_resident, resident-placed, resident-without_victim, resident_below, swapped-placed, victim, victim_resident, without_victim-memory}
 use Rattle.vm_guest.proofs.PieceLemmas.{pieces-epoch}
@@ -20,7 +21,7 @@ use Rattle.vm_pagemap.specs.PageMap.{is_in_place}
 use Rattle.vm_pages.specs.Pages.{count}
 use Rattle.vm_sampling.specs.Words.{word}
 use Rattle.vm_trace.specs.declared.step.Action.{Action}
-use Rattle.vm_trace.specs.declared.step.Action.TheVariants.{Read, Write, Free, Idle, Post}
+use Rattle.vm_trace.specs.declared.step.Action.TheVariants.{Read, Write, Touch, Free, Idle, Yield, Post, Actual}
 use Rattle.vm_trace.specs.Limits.{IsWithin}
 use Rattle.vm_tally.specs.Counts.{swapped_of}
 use Rattle.vm_laws.specs.Swapped.{IsMostAtAnEnd, swapped_after}
@@ -135,13 +136,16 @@ effect-goes g (Read page offset len) below sound =
 effect-goes g (Write page offset bytes) below sound =
     let k = touched-goes g g.config.size page below sound.memory in
     record { held = k.held; more_in = k.more_in; with_spare = k.with_spare; without = k.without }
+effect-goes g (Touch page) below sound = touched-goes g g.config.size page below sound.memory
 effect-goes g (Free page) below sound = kept refl refl
 effect-goes g Idle below sound = goes-kept g
+effect-goes g Yield below sound = goes-kept g
+effect-goes g (Actual pages) below sound = kept refl refl
 effect-goes g (Post queue bytes) below sound = goes-either (nat_lt g.counts.raw_posts most_raw_posts) (kept refl refl) (kept refl refl)
 
 executed-goes : (g : GuestRecord) (action : Action) → Goes g (effect g action) → Goes g (executed g action)
 executed-goes g action k =
-    goes-either (nat_lt (sampled (effect g action)).progress.position (length (sampled (effect g action)).config.trace))
+    goes-either (is_some (next_step (sampled (effect g action))))
     (record { held = k.held; more_in = k.more_in; with_spare = k.with_spare; without = k.without })
     (record { held = k.held; more_in = k.more_in; with_spare = k.with_spare; without = k.without })
 
@@ -155,10 +159,10 @@ one_step-goes g sound = goes-either (has_stalled g) (goes-kept g) (after_step-go
 -- ---- a piece
 
 closed-goes : (g : GuestRecord) → Goes g (closed g)
-closed-goes g = goes-either g.config.tell (goes-kept g) (kept refl refl)
+closed-goes g = goes-either (must_tell g.config) (goes-kept g) (kept refl refl)
 
 piece-goes : (k : ℕ) (g : GuestRecord) → IsSound g → Goes g (piece k g)
-piece-goes zero g sound = goes-either g.progress.blocked (goes-kept g) (kept refl refl)
+piece-goes zero g sound = goes-either g.progress.blocked (goes-kept g) (goes-either g.config.own_driver (kept refl refl) (kept refl refl))
 piece-goes (suc k) g sound =
     goes-either g.progress.blocked (goes-kept g)
     (goes-either (nat_le (suc k) g.config.quantum) (one_step-goes g sound) (closed-goes g))

@@ -18,7 +18,7 @@ use Rattle.vm_sim.specs.Lines.{outcome_lines, state_line}
 use Rattle.vm_sim.specs.Report.{answer_lines, boundary_text, report_of_boundary, end_text, epoch_text, guest_lines, machine_line, name_at, positions, read_lines, report_of, shown_at, stall_lines, report_at, report_of_epochs, report_of_epoch}
 use Rattle.vm_tally.specs.Summary.{after_in, ready_in, told_in}
 use Rattle.vm_laws.specs.ReportLines.{ReportLine, blocked_at, guest_at_end, lines_at, lines_at_end, lines_before, lines_of, lines_of_answer, lines_of_boundary, lines_of_epoch, lines_of_guest, moved, paged_at, reads_of, stalls_of, text_of, text_of_lines}
-use Rattle.vm_laws.specs.ReportLines.ReportLine.{Answer, Found, Grant, Read, Revoke}
+use Rattle.vm_laws.specs.ReportLines.ReportLine.{Answer, Found, Grant, Read, Rebalance, Revoke}
 
 text-append : (xs ys : List ReportLine) → text_of_lines (xs ++ ys) ≡ text_of_lines xs ++ text_of_lines ys
 text-append xs ys = flat_map-append text_of xs ys
@@ -50,11 +50,13 @@ boundary-is w k b =
     text-flat_map (lines_of_answer w) b.answers ∙ (λ i. flat_map (λ a. answer-text w a i) b.answers) in
     let granted = moved w Grant b.granted in
     let blocked = map (blocked_at w) b.blocked in
+    let moved_on = moved w Rebalance b.rebalanced ++ blocked in
     let paged = map (paged_at w) b.paged in
-    let given = text-append granted blocked ∙ (λ i. moves w Grant b.granted i ++ text-map (blocked_at w) b.blocked i) in
-    let taken = text-append paged (granted ++ blocked) ∙ (λ i. text-map (paged_at w) b.paged i ++ given i) in
-    let revoked = text-append (moved w Revoke b.revoked) (paged ++ (granted ++ blocked)) ∙ (λ i. moves w Revoke b.revoked i ++ taken i) in
-    let rest = text-append (flat_map (lines_of_answer w) b.answers) (Found b.state b.free ∷ (moved w Revoke b.revoked ++ (paged ++ (granted ++ blocked))))
+    let last = text-append (moved w Rebalance b.rebalanced) blocked ∙ (λ i. moves w Rebalance b.rebalanced i ++ text-map (blocked_at w) b.blocked i) in
+    let given = text-append granted moved_on ∙ (λ i. moves w Grant b.granted i ++ last i) in
+    let taken = text-append paged (granted ++ moved_on) ∙ (λ i. text-map (paged_at w) b.paged i ++ given i) in
+    let revoked = text-append (moved w Revoke b.revoked) (paged ++ (granted ++ moved_on)) ∙ (λ i. moves w Revoke b.revoked i ++ taken i) in
+    let rest = text-append (flat_map (lines_of_answer w) b.answers) (Found b.state b.free ∷ (moved w Revoke b.revoked ++ (paged ++ (granted ++ moved_on))))
     ∙ (λ i. answers i ++ (state_line b.state b.free ++ revoked i)) in
     append_assoc (codes "epoch ") (decimal k ++ codes "\n") _
     ∙ ap (λ l. codes "epoch " ++ l) (append_assoc (decimal k) (codes "\n") _)

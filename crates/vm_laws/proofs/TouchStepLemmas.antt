@@ -2,24 +2,28 @@
 use Rattle.std.proofs.Common.{◌≡◌, ℕ, zero, suc, ◌+◌, ◌/◌, ◌%◌, ◌^◌, ◌<◌, ◌≤◌, inl, inr, Bool, true, false, if◌then◌else◌, nat_lt, List, [], ◌∷◌, ◌++◌, codes, decimal, length, map, replicate, Result, Ok, refl, sym, ap, ◌∙◌, arith, append_assoc, append-nil, le-leb, lt-ltb, le-ltb}
 use Rattle.std.proofs.lemmas.Bool.{and_from, cases_lt}
 use Rattle.std.proofs.lemmas.Fmt.{decimal_is_IsNumeral, decimal_nonempty, length-decimal-le}
+use Rattle.std.proofs.lemmas.List.{length-append}
 use Rattle.std.proofs.lemmas.List.Sums.{AllPass-from_list_all}
 use Rattle.std.specs.Char.{digit_value, is_ascii_digit}
 use Rattle.std.specs.List.{list_all}
 use Rattle.std.specs.Str.Parse.{AllDigits}
 use Rattle.vm_config.specs.Reading.{steps_from}
+use Rattle.vm_config.specs.Versions.{version_2}
 use Rattle.vm_import.specs.Steps.{byte_of, hex_digit, idle_behind, idle_steps, step_of, steps_of, trace_behind}
-use Rattle.vm_laws.specs.Meaning.{action_of, actions_behind}
+use Rattle.vm_laws.specs.Meaning.{action_of, actions_behind, MeanSteps}
 use Rattle.vm_laws.proofs.RankLemmas.{Each}
 use Rattle.vm_laws.proofs.SafeLemmas.{AreSafe, digit_range, safe-append, safe-byte, safe-cons, safe-decimal}
 use Rattle.vm_laws.proofs.ConfigTextLemmas.{AreAllSafe}
-use Rattle.vm_trace.specs.Sized.{step_in, within_pages}
+use Rattle.vm_trace.specs.Sized.{steps_in, within_pages}
 use Rattle.vm_trace.specs.Spelling.{IsHexOf, IsNumeral}
 use Rattle.vm_trace.specs.Words.{◌>>=◌}
 use Rattle.vm_trace.specs.declared.error.TraceError.{TraceError}
 use Rattle.vm_trace.specs.declared.step.Action.{Action}
 use Rattle.vm_trace.specs.declared.step.Action.TheVariants.{Idle, Read, Write}
 use Rattle.vm_trace.specs.declared.step.Step.{Step}
-use Rattle.vm_trace.proofs.SpelledIsRead.{step_within-spelled}
+use Rattle.vm_trace.specs.Spelling.{IsSpelled}
+use Rattle.vm_trace.specs.Versions.{before_3}
+use Rattle.vm_trace.proofs.SpelledIsRead.{steps_within-spelled}
 use Rattle.vm_import.specs.WorkingSets.{IsWithin}
 use Rattle.vm_import.specs.declared.touch.RankedTouch.{RankedTouch}
 
@@ -86,6 +90,13 @@ module _ (number : ℕ) where
 
 -- ---- one step
 
+-- a text that spells a step is that step alone, if its page is one of the guest's
+read-alone : (size : ℕ) (text : List ℕ) (step : Step) → IsSpelled (before_3 262144) text step
+    → steps_in (before_3 262144) size text ≡ within_pages size (step ∷ [])
+read-alone size text step spelled =
+    ap (λ (r : Result (List Step) TraceError). r >>= within_pages size)
+    (steps_within-spelled (before_3 262144) text (step ∷ []) (inl (step, spelled, refl)))
+
 module _ (size number rank offset : ℕ) (few : size ≤ 262144) (below : rank < size) (inside : offset < 4096) where
   abbrev text : Bool → List ℕ
   text b =
@@ -95,22 +106,24 @@ module _ (size number rank offset : ℕ) (few : size ≤ 262144) (below : rank <
   abbrev action : Bool → Action
   action b = if b then Write rank offset (number % 256 ∷ []) else Read rank offset 1
 
-  read-text : (b : Bool) → step_in 262144 size (text b) ≡ Ok (action b)
+  read-text : (b : Bool) → steps_in (before_3 262144) size (text b) ≡ Ok (action b ∷ [])
   read-text true =
-      ap (λ (r : Result Step TraceError). r >>= within_pages size) (step_within-spelled 262144 (text true) (action true)
+      read-alone size (text true) (action true)
       (record {
         words = (decimal rank, decimal offset, byte_of number, numeral rank (omega arith), numeral offset (omega arith), hex number, refl);
         page = omega arith;
         bytes = record { some = omega arith; few = omega arith; inside = omega arith };
-      }))
+        version = tt;
+      })
       ∙ rw (lt-ltb rank size below) refl
   read-text false =
-      ap (λ (r : Result Step TraceError). r >>= within_pages size) (step_within-spelled 262144 (text false) (action false)
+      read-alone size (text false) (action false)
       (record {
         words = (decimal rank, decimal offset, codes "1", numeral rank (omega arith), numeral offset (omega arith), one, refl);
         page = omega arith;
         bytes = record { some = omega arith; few = omega arith; inside = omega arith };
-      }))
+        version = tt;
+      })
       ∙ rw (lt-ltb rank size below) refl
     where
       one : IsNumeral (codes "1") 1
@@ -136,7 +149,7 @@ module _ (size number rank offset : ℕ) (few : size ≤ 262144) (below : rank <
       last false = refl
 
 read-step : (size number : ℕ) (touch : RankedTouch) → size ≤ 262144 → IsWithin size touch
-    → step_in 262144 size (step_of number touch) ≡ Ok (action_of number touch)
+    → steps_in (before_3 262144) size (step_of number touch) ≡ Ok (action_of number touch ∷ [])
 unfolding step_of
 read-step size number touch few within = read-text size number touch.rank touch.offset few within.rank within.offset touch.writes
 
@@ -144,18 +157,11 @@ step-safe : (size number : ℕ) (touch : RankedTouch) → size ≤ 262144 → Is
 unfolding step_of
 step-safe size number touch few within = text-safe size number touch.rank touch.offset few within.rank within.offset touch.writes
 
-read-idle : (size : ℕ) → step_in 262144 size (codes "i") ≡ Ok Idle
+read-idle : (size : ℕ) → steps_in (before_3 262144) size (codes "i") ≡ Ok (Idle ∷ [])
 read-idle size =
-    ap (λ (r : Result Step TraceError). r >>= within_pages size) (step_within-spelled 262144 (codes "i") Idle (record { words = refl; page = tt; bytes = tt }))
+    read-alone size (codes "i") Idle (record { words = refl; page = tt; bytes = tt; version = tt })
 
 -- ---- a trace
-
--- each text is read as the step at its place
-abbrev pub MeanSteps : ℕ → List (List ℕ) → List Action → Type 0
-MeanSteps size [] [] = Unit {0}
-MeanSteps size [] (step ∷ steps) = ⊥
-MeanSteps size (text ∷ texts) [] = ⊥
-MeanSteps size (text ∷ texts) (step ∷ steps) = (step_in 262144 size text ≡ Ok step) × MeanSteps size texts steps
 
 mean-append : (size : ℕ) (xs ys : List (List ℕ)) (firsts lasts : List Action) → MeanSteps size xs firsts → MeanSteps size ys lasts
     → MeanSteps size (xs ++ ys) (firsts ++ lasts)
@@ -194,14 +200,16 @@ mean-length size (text ∷ texts) [] h = absurd h
 mean-length size (text ∷ texts) (step ∷ steps) h = ap (λ (n : ℕ). suc n) (mean-length size texts steps h.1)
 
 -- the texts are read as the steps
-pub steps_from-mean : (size guest : ℕ) (texts : List (List ℕ)) (steps done : List Action) → MeanSteps size texts steps
-    → steps_from 262144 size guest texts done ≡ Ok (done ++ steps)
-steps_from-mean size guest [] [] done h = ap (λ (l : List Action). Ok l) (sym (append-nil done))
-steps_from-mean size guest [] (step ∷ steps) done h = absurd h
-steps_from-mean size guest (text ∷ texts) [] done h = absurd h
-steps_from-mean size guest (text ∷ texts) (step ∷ steps) done h =
-    rw h.0
-    (steps_from-mean size guest texts steps (done ++ step ∷ []) h.1 ∙ ap (λ (l : List Action). Ok l) (append_assoc done (step ∷ []) steps))
+pub steps_from-mean : (size guest number : ℕ) (texts : List (List ℕ)) (steps done : List Action) → MeanSteps size texts steps
+    → length done + length steps ≤ 1000000 → steps_from version_2 size guest number texts done ≡ Ok (done ++ steps)
+unfolding version_2
+steps_from-mean size guest number [] [] done h few = ap (λ (l : List Action). Ok l) (sym (append-nil done))
+steps_from-mean size guest number [] (step ∷ steps) done h few = absurd h
+steps_from-mean size guest number (text ∷ texts) [] done h few = absurd h
+steps_from-mean size guest number (text ∷ texts) (step ∷ steps) done h few =
+    rw (h.0, le-leb (length done + 1) 1000000 (omega (arith, few)))
+    (steps_from-mean size guest (number + 1) texts steps (done ++ step ∷ []) h.1 (omega (arith, few, length-append done (step ∷ [])))
+    ∙ ap (λ (l : List Action). Ok l) (append_assoc done (step ∷ []) steps))
 
 -- ---- nothing in it is escaped
 

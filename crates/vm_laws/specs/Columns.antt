@@ -8,7 +8,7 @@ use Rattle.vm_tally.specs.Counting.{one_if, sum_each}
 use Rattle.vm_tally.specs.Counts.{is_for_frames, is_for_swap, is_hard, is_high, is_low, is_refused, is_soft}
 use Rattle.vm_tally.specs.Summary.{summary_of}
 use Rattle.vm_laws.specs.ReportLines.{ReportLine, lines_of}
-use Rattle.vm_laws.specs.ReportLines.ReportLine.{Answer, Block, Found, Grant, Guest, Page, Revoke, Stall}
+use Rattle.vm_laws.specs.ReportLines.ReportLine.{Answer, Block, Found, Grant, Guest, Page, Rebalance, Revoke, Stall}
 
 -- 1 for each `state` line with such a state
 abbrev pub found : (State → Bool) → ReportLine → ℕ
@@ -34,6 +34,11 @@ paging _ = 0
 abbrev pub granting : ReportLine → ℕ
 granting (Grant name count) = count
 granting _ = 0
+
+-- of each `rebalance` line
+abbrev pub rebalancing : ReportLine → ℕ
+rebalancing (Rebalance name count) = count
+rebalancing _ = 0
 
 -- 1 for each `block` line
 abbrev pub blocking : ReportLine → ℕ
@@ -70,6 +75,7 @@ pub record AddsUpLines (c : Config) : Type 0 where
   pub revoked : (summary_of c).revoked ≡ saturated (added_up revoking c)
   pub paged : (summary_of c).paged ≡ saturated (added_up paging c)
   pub granted : (summary_of c).granted ≡ saturated (added_up granting c)
+  pub rebalanced : (summary_of c).rebalanced ≡ saturated (added_up rebalancing c)
   pub blocked : (summary_of c).blocked ≡ saturated (added_up blocking c)
   pub stalls : (summary_of c).stalls ≡ saturated (added_up stalling c)
   pub swapped : (summary_of c).swapped ≡ added_up swapped_at_end c

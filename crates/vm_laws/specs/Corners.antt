@@ -6,13 +6,13 @@ use Rattle.vm_trace.specs.declared.step.Queue.TheVariants.{Stats}
 
 abbrev pub both_books : Config
 both_books = record {
-  machine = record { frames = 10; swap = 5; overhead = 0; tax = 7500; percent = record { high = 600; soft = 400; hard = 200; low = 100 }; page_rate = 16 };
+  machine = record { frames = 10; swap = 5; overhead = 0; tax = 7500; percent = record { high = 600; soft = 400; hard = 200; low = 100 }; page_rate = 16; rebalance = 0; page = 4 };
   epochs = 1;
   domains = (
-      record { name = codes "a"; config = record { size = 6; min = 6; shares = 1000; samples = 100; period = 1000; rate = 16; quantum = 1; seed = 0; stream = 0; tell = true; trace = ([]) } } ∷
-      record { name = codes "b"; config = record { size = 20; min = 5; shares = 1000; samples = 100; period = 1000; rate = 16; quantum = 1; seed = 0; stream = 0; tell = true; trace = ([]) } } ∷
-      record { name = codes "c"; config = record { size = 12; min = 4; shares = 1000; samples = 100; period = 1000; rate = 16; quantum = 1; seed = 0; stream = 0; tell = true; trace = ([]) } } ∷
-      record { name = codes "d"; config = record { size = 8; min = 4; shares = 1000; samples = 100; period = 1000; rate = 16; quantum = 1; seed = 0; stream = 0; tell = true; trace = ([]) } } ∷ []);
+      record { name = codes "a"; config = record { size = 6; min = 6; shares = 1000; samples = 100; period = 1000; rate = 16; quantum = 1; seed = 0; stream = 0; tell = true; own_driver = true; page = 4; trace = ([]) } } ∷
+      record { name = codes "b"; config = record { size = 20; min = 5; shares = 1000; samples = 100; period = 1000; rate = 16; quantum = 1; seed = 0; stream = 0; tell = true; own_driver = true; page = 4; trace = ([]) } } ∷
+      record { name = codes "c"; config = record { size = 12; min = 4; shares = 1000; samples = 100; period = 1000; rate = 16; quantum = 1; seed = 0; stream = 0; tell = true; own_driver = true; page = 4; trace = ([]) } } ∷
+      record { name = codes "d"; config = record { size = 8; min = 4; shares = 1000; samples = 100; period = 1000; rate = 16; quantum = 1; seed = 0; stream = 0; tell = true; own_driver = true; page = 4; trace = ([]) } } ∷ []);
   autostart = (true ∷ true ∷ true ∷ true ∷ []);
   commands = ([]);
 }
@@ -22,11 +22,11 @@ both_books_report = codes "epoch 0\n> start a\nok\n> start b\nerror 8 no memory 
 
 abbrev pub caps_and_demand : Config
 caps_and_demand = record {
-  machine = record { frames = 40; swap = 60; overhead = 0; tax = 7500; percent = record { high = 5000; soft = 5000; hard = 0; low = 0 }; page_rate = 16 };
+  machine = record { frames = 40; swap = 60; overhead = 0; tax = 7500; percent = record { high = 5000; soft = 5000; hard = 0; low = 0 }; page_rate = 16; rebalance = 0; page = 4 };
   epochs = 4;
   domains = (
-      record { name = codes "a"; config = record { size = 16; min = 4; shares = 1000; samples = 100; period = 1000; rate = 2; quantum = 3; seed = 0; stream = 0; tell = true; trace = (Read 0 0 1 ∷ Read 1 0 1 ∷ Read 2 0 1 ∷ Read 3 0 1 ∷ Read 4 0 1 ∷ Read 5 0 1 ∷ []) } } ∷
-      record { name = codes "b"; config = record { size = 16; min = 16; shares = 1000; samples = 100; period = 1000; rate = 16; quantum = 3; seed = 0; stream = 0; tell = true; trace = ([]) } } ∷ []);
+      record { name = codes "a"; config = record { size = 16; min = 4; shares = 1000; samples = 100; period = 1000; rate = 2; quantum = 3; seed = 0; stream = 0; tell = true; own_driver = true; page = 4; trace = (Read 0 0 1 ∷ Read 1 0 1 ∷ Read 2 0 1 ∷ Read 3 0 1 ∷ Read 4 0 1 ∷ Read 5 0 1 ∷ []) } } ∷
+      record { name = codes "b"; config = record { size = 16; min = 16; shares = 1000; samples = 100; period = 1000; rate = 16; quantum = 3; seed = 0; stream = 0; tell = true; own_driver = true; page = 4; trace = ([]) } } ∷ []);
   autostart = (true ∷ true ∷ []);
   commands = (
       record { at = 0; line = codes "setmem a 32" } ∷
@@ -43,10 +43,10 @@ caps_and_demand_report = codes "epoch 0\n> start a\nok\n> start b\nok\n> setmem 
 
 abbrev pub freed_pages_come_back : Config
 freed_pages_come_back = record {
-  machine = record { frames = 20; swap = 60; overhead = 0; tax = 7500; percent = record { high = 600; soft = 400; hard = 200; low = 100 }; page_rate = 16 };
+  machine = record { frames = 20; swap = 60; overhead = 0; tax = 7500; percent = record { high = 600; soft = 400; hard = 200; low = 100 }; page_rate = 16; rebalance = 0; page = 4 };
   epochs = 3;
   domains = (
-      record { name = codes "a"; config = record { size = 8; min = 2; shares = 1000; samples = 100; period = 1000; rate = 16; quantum = 10; seed = 0; stream = 0; tell = true; trace = (Write 0 0 (1 ∷ []) ∷ Write 1 0 (1 ∷ []) ∷ Write 2 0 (1 ∷ []) ∷ Write 3 0 (1 ∷ []) ∷ Write 4 0 (1 ∷ []) ∷ Write 5 0 (1 ∷ []) ∷ Write 6 0 (1 ∷ []) ∷ Write 7 0 (1 ∷ []) ∷ Free 7 ∷ Free 6 ∷ []) } } ∷ []);
+      record { name = codes "a"; config = record { size = 8; min = 2; shares = 1000; samples = 100; period = 1000; rate = 16; quantum = 10; seed = 0; stream = 0; tell = true; own_driver = true; page = 4; trace = (Write 0 0 (1 ∷ []) ∷ Write 1 0 (1 ∷ []) ∷ Write 2 0 (1 ∷ []) ∷ Write 3 0 (1 ∷ []) ∷ Write 4 0 (1 ∷ []) ∷ Write 5 0 (1 ∷ []) ∷ Write 6 0 (1 ∷ []) ∷ Write 7 0 (1 ∷ []) ∷ Free 7 ∷ Free 6 ∷ []) } } ∷ []);
   autostart = (true ∷ []);
   commands = (
       record { at = 1; line = codes "setmem a 24" } ∷ []);
@@ -57,11 +57,11 @@ freed_pages_come_back_report = codes "epoch 0\n> start a\nok\nstate high free 18
 
 abbrev pub least_minimum : Config
 least_minimum = record {
-  machine = record { frames = 40; swap = 12; overhead = 0; tax = 7500; percent = record { high = 600; soft = 400; hard = 200; low = 100 }; page_rate = 16 };
+  machine = record { frames = 40; swap = 12; overhead = 0; tax = 7500; percent = record { high = 600; soft = 400; hard = 200; low = 100 }; page_rate = 16; rebalance = 0; page = 4 };
   epochs = 2;
   domains = (
-      record { name = codes "a"; config = record { size = 10; min = 8; shares = 1000; samples = 100; period = 1000; rate = 16; quantum = 1; seed = 0; stream = 0; tell = true; trace = ([]) } } ∷
-      record { name = codes "b"; config = record { size = 6; min = 2; shares = 1000; samples = 100; period = 1000; rate = 16; quantum = 1; seed = 0; stream = 0; tell = true; trace = ([]) } } ∷ []);
+      record { name = codes "a"; config = record { size = 10; min = 8; shares = 1000; samples = 100; period = 1000; rate = 16; quantum = 1; seed = 0; stream = 0; tell = true; own_driver = true; page = 4; trace = ([]) } } ∷
+      record { name = codes "b"; config = record { size = 6; min = 2; shares = 1000; samples = 100; period = 1000; rate = 16; quantum = 1; seed = 0; stream = 0; tell = true; own_driver = true; page = 4; trace = ([]) } } ∷ []);
   autostart = (true ∷ false ∷ []);
   commands = (
       record { at = 0; line = codes "memtune a --min-guarantee 4" } ∷
@@ -75,11 +75,11 @@ least_minimum_report = codes "epoch 0\n> start a\nok\n> memtune a --min-guarante
 
 abbrev pub memtune_books : Config
 memtune_books = record {
-  machine = record { frames = 12; swap = 9; overhead = 1; tax = 7500; percent = record { high = 600; soft = 400; hard = 200; low = 100 }; page_rate = 16 };
+  machine = record { frames = 12; swap = 9; overhead = 1; tax = 7500; percent = record { high = 600; soft = 400; hard = 200; low = 100 }; page_rate = 16; rebalance = 0; page = 4 };
   epochs = 1;
   domains = (
-      record { name = codes "a"; config = record { size = 10; min = 3; shares = 1000; samples = 100; period = 1000; rate = 16; quantum = 1; seed = 0; stream = 0; tell = true; trace = ([]) } } ∷
-      record { name = codes "b"; config = record { size = 6; min = 5; shares = 1000; samples = 100; period = 1000; rate = 16; quantum = 1; seed = 0; stream = 0; tell = true; trace = ([]) } } ∷ []);
+      record { name = codes "a"; config = record { size = 10; min = 3; shares = 1000; samples = 100; period = 1000; rate = 16; quantum = 1; seed = 0; stream = 0; tell = true; own_driver = true; page = 4; trace = ([]) } } ∷
+      record { name = codes "b"; config = record { size = 6; min = 5; shares = 1000; samples = 100; period = 1000; rate = 16; quantum = 1; seed = 0; stream = 0; tell = true; own_driver = true; page = 4; trace = ([]) } } ∷ []);
   autostart = (true ∷ true ∷ []);
   commands = (
       record { at = 0; line = codes "memtune a --min-guarantee 24" } ∷
@@ -94,11 +94,11 @@ memtune_books_report = codes "epoch 0\n> start a\nok\n> start b\nok\n> memtune a
 
 abbrev pub minimum_keeps_demand : Config
 minimum_keeps_demand = record {
-  machine = record { frames = 20; swap = 60; overhead = 0; tax = 7500; percent = record { high = 5000; soft = 5000; hard = 0; low = 0 }; page_rate = 16 };
+  machine = record { frames = 20; swap = 60; overhead = 0; tax = 7500; percent = record { high = 5000; soft = 5000; hard = 0; low = 0 }; page_rate = 16; rebalance = 0; page = 4 };
   epochs = 2;
   domains = (
-      record { name = codes "a"; config = record { size = 20; min = 4; shares = 1000; samples = 100; period = 1000; rate = 1; quantum = 8; seed = 0; stream = 0; tell = true; trace = (Read 0 0 1 ∷ Read 1 0 1 ∷ Read 2 0 1 ∷ Read 3 0 1 ∷ Read 4 0 1 ∷ Read 5 0 1 ∷ Read 6 0 1 ∷ Read 7 0 1 ∷ []) } } ∷
-      record { name = codes "b"; config = record { size = 6; min = 6; shares = 1000; samples = 100; period = 1000; rate = 16; quantum = 8; seed = 0; stream = 0; tell = true; trace = ([]) } } ∷ []);
+      record { name = codes "a"; config = record { size = 20; min = 4; shares = 1000; samples = 100; period = 1000; rate = 1; quantum = 8; seed = 0; stream = 0; tell = true; own_driver = true; page = 4; trace = (Read 0 0 1 ∷ Read 1 0 1 ∷ Read 2 0 1 ∷ Read 3 0 1 ∷ Read 4 0 1 ∷ Read 5 0 1 ∷ Read 6 0 1 ∷ Read 7 0 1 ∷ []) } } ∷
+      record { name = codes "b"; config = record { size = 6; min = 6; shares = 1000; samples = 100; period = 1000; rate = 16; quantum = 8; seed = 0; stream = 0; tell = true; own_driver = true; page = 4; trace = ([]) } } ∷ []);
   autostart = (true ∷ true ∷ []);
   commands = (
       record { at = 1; line = codes "destroy b" } ∷
@@ -110,12 +110,12 @@ minimum_keeps_demand_report = codes "epoch 0\n> start a\nok\n> start b\nok\nstat
 
 abbrev pub next_best : Config
 next_best = record {
-  machine = record { frames = 31; swap = 200; overhead = 0; tax = 0; percent = record { high = 1000; soft = 1000; hard = 200; low = 200 }; page_rate = 1 };
+  machine = record { frames = 31; swap = 200; overhead = 0; tax = 0; percent = record { high = 1000; soft = 1000; hard = 200; low = 200 }; page_rate = 1; rebalance = 0; page = 4 };
   epochs = 1;
   domains = (
-      record { name = codes "a"; config = record { size = 8; min = 4; shares = 48; samples = 1; period = 1000; rate = 16; quantum = 1; seed = 0; stream = 0; tell = true; trace = ([]) } } ∷
-      record { name = codes "b"; config = record { size = 16; min = 13; shares = 146; samples = 1; period = 1000; rate = 16; quantum = 1; seed = 0; stream = 0; tell = true; trace = ([]) } } ∷
-      record { name = codes "c"; config = record { size = 17; min = 12; shares = 100; samples = 1; period = 1000; rate = 16; quantum = 1; seed = 0; stream = 0; tell = true; trace = ([]) } } ∷ []);
+      record { name = codes "a"; config = record { size = 8; min = 4; shares = 48; samples = 1; period = 1000; rate = 16; quantum = 1; seed = 0; stream = 0; tell = true; own_driver = true; page = 4; trace = ([]) } } ∷
+      record { name = codes "b"; config = record { size = 16; min = 13; shares = 146; samples = 1; period = 1000; rate = 16; quantum = 1; seed = 0; stream = 0; tell = true; own_driver = true; page = 4; trace = ([]) } } ∷
+      record { name = codes "c"; config = record { size = 17; min = 12; shares = 100; samples = 1; period = 1000; rate = 16; quantum = 1; seed = 0; stream = 0; tell = true; own_driver = true; page = 4; trace = ([]) } } ∷ []);
   autostart = (true ∷ true ∷ true ∷ []);
   commands = (
       record { at = 0; line = codes "memtune c --min-guarantee 20" } ∷ []);
@@ -126,12 +126,12 @@ next_best_report = codes "epoch 0\n> start a\nok\n> start b\nok\n> start c\nok\n
 
 abbrev pub refusals : Config
 refusals = record {
-  machine = record { frames = 20; swap = 20; overhead = 1; tax = 7500; percent = record { high = 600; soft = 400; hard = 200; low = 100 }; page_rate = 16 };
+  machine = record { frames = 20; swap = 20; overhead = 1; tax = 7500; percent = record { high = 600; soft = 400; hard = 200; low = 100 }; page_rate = 16; rebalance = 0; page = 4 };
   epochs = 2;
   domains = (
-      record { name = codes "a"; config = record { size = 8; min = 2; shares = 1000; samples = 100; period = 1000; rate = 16; quantum = 1; seed = 0; stream = 0; tell = true; trace = ([]) } } ∷
-      record { name = codes "b"; config = record { size = 30; min = 18; shares = 1000; samples = 100; period = 1000; rate = 16; quantum = 1; seed = 0; stream = 0; tell = true; trace = ([]) } } ∷
-      record { name = codes "c"; config = record { size = 25; min = 2; shares = 1000; samples = 100; period = 1000; rate = 16; quantum = 1; seed = 0; stream = 0; tell = true; trace = ([]) } } ∷ []);
+      record { name = codes "a"; config = record { size = 8; min = 2; shares = 1000; samples = 100; period = 1000; rate = 16; quantum = 1; seed = 0; stream = 0; tell = true; own_driver = true; page = 4; trace = ([]) } } ∷
+      record { name = codes "b"; config = record { size = 30; min = 18; shares = 1000; samples = 100; period = 1000; rate = 16; quantum = 1; seed = 0; stream = 0; tell = true; own_driver = true; page = 4; trace = ([]) } } ∷
+      record { name = codes "c"; config = record { size = 25; min = 2; shares = 1000; samples = 100; period = 1000; rate = 16; quantum = 1; seed = 0; stream = 0; tell = true; own_driver = true; page = 4; trace = ([]) } } ∷ []);
   autostart = (true ∷ false ∷ false ∷ []);
   commands = (
       record { at = 0; line = codes "start b" } ∷
@@ -165,11 +165,11 @@ refusals_report = codes "epoch 0\n> start a\nok\n> start b\nerror 8 no memory to
 
 abbrev pub restarted_shares : Config
 restarted_shares = record {
-  machine = record { frames = 20; swap = 60; overhead = 0; tax = 7500; percent = record { high = 5000; soft = 2500; hard = 1000; low = 500 }; page_rate = 16 };
+  machine = record { frames = 20; swap = 60; overhead = 0; tax = 7500; percent = record { high = 5000; soft = 2500; hard = 1000; low = 500 }; page_rate = 16; rebalance = 0; page = 4 };
   epochs = 1;
   domains = (
-      record { name = codes "a"; config = record { size = 12; min = 2; shares = 1000; samples = 100; period = 1000; rate = 16; quantum = 1; seed = 0; stream = 0; tell = true; trace = ([]) } } ∷
-      record { name = codes "b"; config = record { size = 12; min = 2; shares = 1000; samples = 100; period = 1000; rate = 16; quantum = 1; seed = 0; stream = 0; tell = true; trace = ([]) } } ∷ []);
+      record { name = codes "a"; config = record { size = 12; min = 2; shares = 1000; samples = 100; period = 1000; rate = 16; quantum = 1; seed = 0; stream = 0; tell = true; own_driver = true; page = 4; trace = ([]) } } ∷
+      record { name = codes "b"; config = record { size = 12; min = 2; shares = 1000; samples = 100; period = 1000; rate = 16; quantum = 1; seed = 0; stream = 0; tell = true; own_driver = true; page = 4; trace = ([]) } } ∷ []);
   autostart = (true ∷ true ∷ []);
   commands = (
       record { at = 0; line = codes "memshares b 1" } ∷
@@ -182,13 +182,13 @@ restarted_shares_report = codes "epoch 0\n> start a\nok\n> start b\nok\n> memsha
 
 abbrev pub soft_to_low : Config
 soft_to_low = record {
-  machine = record { frames = 40; swap = 200; overhead = 0; tax = 7500; percent = record { high = 4000; soft = 3000; hard = 2000; low = 1000 }; page_rate = 2 };
+  machine = record { frames = 40; swap = 200; overhead = 0; tax = 7500; percent = record { high = 4000; soft = 3000; hard = 2000; low = 1000 }; page_rate = 2; rebalance = 0; page = 4 };
   epochs = 6;
   domains = (
-      record { name = codes "a"; config = record { size = 30; min = 4; shares = 1000; samples = 100; period = 1000; rate = 1; quantum = 3; seed = 0; stream = 0; tell = true; trace = (Write 0 0 (1 ∷ []) ∷ Write 1 0 (2 ∷ []) ∷ Read 2 0 1 ∷ Read 0 0 1 ∷ Read 3 0 1 ∷ Read 1 0 1 ∷ Write 4 0 (5 ∷ []) ∷ Read 5 0 1 ∷ []) } } ∷
-      record { name = codes "b"; config = record { size = 12; min = 2; shares = 1000; samples = 100; period = 1000; rate = 1; quantum = 3; seed = 0; stream = 0; tell = true; trace = ([]) } } ∷
-      record { name = codes "x"; config = record { size = 3; min = 3; shares = 1000; samples = 100; period = 1000; rate = 16; quantum = 3; seed = 0; stream = 0; tell = true; trace = ([]) } } ∷
-      record { name = codes "y"; config = record { size = 14; min = 14; shares = 1000; samples = 100; period = 1000; rate = 16; quantum = 3; seed = 0; stream = 0; tell = true; trace = ([]) } } ∷ []);
+      record { name = codes "a"; config = record { size = 30; min = 4; shares = 1000; samples = 100; period = 1000; rate = 1; quantum = 3; seed = 0; stream = 0; tell = true; own_driver = true; page = 4; trace = (Write 0 0 (1 ∷ []) ∷ Write 1 0 (2 ∷ []) ∷ Read 2 0 1 ∷ Read 0 0 1 ∷ Read 3 0 1 ∷ Read 1 0 1 ∷ Write 4 0 (5 ∷ []) ∷ Read 5 0 1 ∷ []) } } ∷
+      record { name = codes "b"; config = record { size = 12; min = 2; shares = 1000; samples = 100; period = 1000; rate = 1; quantum = 3; seed = 0; stream = 0; tell = true; own_driver = true; page = 4; trace = ([]) } } ∷
+      record { name = codes "x"; config = record { size = 3; min = 3; shares = 1000; samples = 100; period = 1000; rate = 16; quantum = 3; seed = 0; stream = 0; tell = true; own_driver = true; page = 4; trace = ([]) } } ∷
+      record { name = codes "y"; config = record { size = 14; min = 14; shares = 1000; samples = 100; period = 1000; rate = 16; quantum = 3; seed = 0; stream = 0; tell = true; own_driver = true; page = 4; trace = ([]) } } ∷ []);
   autostart = (true ∷ true ∷ false ∷ false ∷ []);
   commands = (
       record { at = 1; line = codes "start x" } ∷
@@ -201,11 +201,11 @@ soft_to_low_report = codes "epoch 0\n> start a\nok\n> start b\nok\nstate high fr
 
 abbrev pub statistics_of_guest : Config
 statistics_of_guest = record {
-  machine = record { frames = 40; swap = 60; overhead = 0; tax = 7500; percent = record { high = 600; soft = 400; hard = 200; low = 100 }; page_rate = 16 };
+  machine = record { frames = 40; swap = 60; overhead = 0; tax = 7500; percent = record { high = 600; soft = 400; hard = 200; low = 100 }; page_rate = 16; rebalance = 0; page = 4 };
   epochs = 3;
   domains = (
-      record { name = codes "a"; config = record { size = 6; min = 2; shares = 1000; samples = 100; period = 1000; rate = 16; quantum = 3; seed = 0; stream = 0; tell = true; trace = (Read 0 0 1 ∷ Post Stats (0 ∷ 0 ∷ 1 ∷ 4 ∷ 0 ∷ 0 ∷ 0 ∷ 0 ∷ 0 ∷ 0 ∷ 1 ∷ 0 ∷ 1 ∷ 8 ∷ 0 ∷ 0 ∷ 0 ∷ 0 ∷ 0 ∷ 0 ∷ 2 ∷ 0 ∷ 255 ∷ 7 ∷ 0 ∷ 0 ∷ 0 ∷ 0 ∷ 0 ∷ 0 ∷ []) ∷ Post Stats (6 ∷ 0 ∷ 255 ∷ 255 ∷ 0 ∷ 0 ∷ 0 ∷ 0 ∷ 0 ∷ 0 ∷ 3 ∷ 0 ∷ 255 ∷ 7 ∷ 0 ∷ 0 ∷ 0 ∷ 0 ∷ 0 ∷ 0 ∷ 1 ∷ 0 ∷ 1 ∷ 12 ∷ 0 ∷ 0 ∷ 0 ∷ 0 ∷ 0 ∷ 0 ∷ []) ∷ []) } } ∷
-      record { name = codes "b"; config = record { size = 4; min = 2; shares = 1000; samples = 100; period = 1000; rate = 16; quantum = 3; seed = 0; stream = 0; tell = true; trace = ([]) } } ∷ []);
+      record { name = codes "a"; config = record { size = 6; min = 2; shares = 1000; samples = 100; period = 1000; rate = 16; quantum = 3; seed = 0; stream = 0; tell = true; own_driver = true; page = 4; trace = (Read 0 0 1 ∷ Post Stats (0 ∷ 0 ∷ 1 ∷ 4 ∷ 0 ∷ 0 ∷ 0 ∷ 0 ∷ 0 ∷ 0 ∷ 1 ∷ 0 ∷ 1 ∷ 8 ∷ 0 ∷ 0 ∷ 0 ∷ 0 ∷ 0 ∷ 0 ∷ 2 ∷ 0 ∷ 255 ∷ 7 ∷ 0 ∷ 0 ∷ 0 ∷ 0 ∷ 0 ∷ 0 ∷ []) ∷ Post Stats (6 ∷ 0 ∷ 255 ∷ 255 ∷ 0 ∷ 0 ∷ 0 ∷ 0 ∷ 0 ∷ 0 ∷ 3 ∷ 0 ∷ 255 ∷ 7 ∷ 0 ∷ 0 ∷ 0 ∷ 0 ∷ 0 ∷ 0 ∷ 1 ∷ 0 ∷ 1 ∷ 12 ∷ 0 ∷ 0 ∷ 0 ∷ 0 ∷ 0 ∷ 0 ∷ []) ∷ []) } } ∷
+      record { name = codes "b"; config = record { size = 4; min = 2; shares = 1000; samples = 100; period = 1000; rate = 16; quantum = 3; seed = 0; stream = 0; tell = true; own_driver = true; page = 4; trace = ([]) } } ∷ []);
   autostart = (true ∷ false ∷ []);
   commands = (
       record { at = 0; line = codes "setmem a 12" } ∷
@@ -222,13 +222,13 @@ statistics_of_guest_report = codes "epoch 0\n> start a\nok\n> setmem a 12\nok\n>
 
 abbrev pub woken_1 : Config
 woken_1 = record {
-  machine = record { frames = 23; swap = 200; overhead = 0; tax = 7500; percent = record { high = 2000; soft = 1500; hard = 800; low = 400 }; page_rate = 2 };
+  machine = record { frames = 23; swap = 200; overhead = 0; tax = 7500; percent = record { high = 2000; soft = 1500; hard = 800; low = 400 }; page_rate = 2; rebalance = 0; page = 4 };
   epochs = 7;
   domains = (
-      record { name = codes "a"; config = record { size = 5; min = 3; shares = 100; samples = 4; period = 1; rate = 4; quantum = 4; seed = 50; stream = 0; tell = true; trace = (Idle ∷ Idle ∷ Idle ∷ Idle ∷ Idle ∷ Idle ∷ Idle ∷ Read 0 0 1 ∷ Read 1 0 1 ∷ Read 2 0 1 ∷ Read 3 0 1 ∷ Read 4 0 1 ∷ Idle ∷ Idle ∷ Idle ∷ Idle ∷ Idle ∷ Idle ∷ Idle ∷ Read 0 0 1 ∷ Read 1 0 1 ∷ Read 2 0 1 ∷ Read 3 0 1 ∷ Read 4 0 1 ∷ Read 0 0 1 ∷ Read 1 0 1 ∷ []) } } ∷
-      record { name = codes "b"; config = record { size = 20; min = 2; shares = 100; samples = 2; period = 7; rate = 1; quantum = 4; seed = 39; stream = 0; tell = true; trace = (Idle ∷ Idle ∷ Idle ∷ Idle ∷ Idle ∷ Idle ∷ Idle ∷ Idle ∷ Read 0 0 1 ∷ Idle ∷ Idle ∷ Idle ∷ Idle ∷ Idle ∷ Read 0 0 1 ∷ Read 1 0 1 ∷ []) } } ∷
-      record { name = codes "c"; config = record { size = 11; min = 1; shares = 100; samples = 5; period = 8; rate = 4; quantum = 4; seed = 64; stream = 0; tell = true; trace = (Read 0 0 1 ∷ Read 1 0 1 ∷ Read 2 0 1 ∷ Read 3 0 1 ∷ Read 4 0 1 ∷ Read 5 0 1 ∷ Idle ∷ Idle ∷ Idle ∷ Idle ∷ Idle ∷ Idle ∷ Idle ∷ Idle ∷ Read 0 0 1 ∷ Read 1 0 1 ∷ Read 2 0 1 ∷ Read 3 0 1 ∷ []) } } ∷
-      record { name = codes "x"; config = record { size = 3; min = 3; shares = 1000; samples = 100; period = 1000; rate = 16; quantum = 4; seed = 0; stream = 0; tell = true; trace = ([]) } } ∷ []);
+      record { name = codes "a"; config = record { size = 5; min = 3; shares = 100; samples = 4; period = 1; rate = 4; quantum = 4; seed = 50; stream = 0; tell = true; own_driver = true; page = 4; trace = (Idle ∷ Idle ∷ Idle ∷ Idle ∷ Idle ∷ Idle ∷ Idle ∷ Read 0 0 1 ∷ Read 1 0 1 ∷ Read 2 0 1 ∷ Read 3 0 1 ∷ Read 4 0 1 ∷ Idle ∷ Idle ∷ Idle ∷ Idle ∷ Idle ∷ Idle ∷ Idle ∷ Read 0 0 1 ∷ Read 1 0 1 ∷ Read 2 0 1 ∷ Read 3 0 1 ∷ Read 4 0 1 ∷ Read 0 0 1 ∷ Read 1 0 1 ∷ []) } } ∷
+      record { name = codes "b"; config = record { size = 20; min = 2; shares = 100; samples = 2; period = 7; rate = 1; quantum = 4; seed = 39; stream = 0; tell = true; own_driver = true; page = 4; trace = (Idle ∷ Idle ∷ Idle ∷ Idle ∷ Idle ∷ Idle ∷ Idle ∷ Idle ∷ Read 0 0 1 ∷ Idle ∷ Idle ∷ Idle ∷ Idle ∷ Idle ∷ Read 0 0 1 ∷ Read 1 0 1 ∷ []) } } ∷
+      record { name = codes "c"; config = record { size = 11; min = 1; shares = 100; samples = 5; period = 8; rate = 4; quantum = 4; seed = 64; stream = 0; tell = true; own_driver = true; page = 4; trace = (Read 0 0 1 ∷ Read 1 0 1 ∷ Read 2 0 1 ∷ Read 3 0 1 ∷ Read 4 0 1 ∷ Read 5 0 1 ∷ Idle ∷ Idle ∷ Idle ∷ Idle ∷ Idle ∷ Idle ∷ Idle ∷ Idle ∷ Read 0 0 1 ∷ Read 1 0 1 ∷ Read 2 0 1 ∷ Read 3 0 1 ∷ []) } } ∷
+      record { name = codes "x"; config = record { size = 3; min = 3; shares = 1000; samples = 100; period = 1000; rate = 16; quantum = 4; seed = 0; stream = 0; tell = true; own_driver = true; page = 4; trace = ([]) } } ∷ []);
   autostart = (true ∷ true ∷ true ∷ false ∷ []);
   commands = (
       record { at = 6; line = codes "start x" } ∷ []);
@@ -239,12 +239,12 @@ woken_1_report = codes "epoch 0\n> start a\nok\n> start b\nok\n> start c\nok\nst
 
 abbrev pub woken_2 : Config
 woken_2 = record {
-  machine = record { frames = 20; swap = 200; overhead = 0; tax = 9000; percent = record { high = 2000; soft = 1500; hard = 800; low = 400 }; page_rate = 2 };
+  machine = record { frames = 20; swap = 200; overhead = 0; tax = 9000; percent = record { high = 2000; soft = 1500; hard = 800; low = 400 }; page_rate = 2; rebalance = 0; page = 4 };
   epochs = 7;
   domains = (
-      record { name = codes "a"; config = record { size = 9; min = 3; shares = 100; samples = 1; period = 6; rate = 4; quantum = 3; seed = 27; stream = 0; tell = true; trace = (Idle ∷ Idle ∷ Idle ∷ Idle ∷ Idle ∷ Idle ∷ Idle ∷ Idle ∷ Idle ∷ Idle ∷ Read 0 0 1 ∷ Read 0 0 1 ∷ Read 1 0 1 ∷ Read 2 0 1 ∷ []) } } ∷
-      record { name = codes "b"; config = record { size = 9; min = 1; shares = 100; samples = 1; period = 5; rate = 1; quantum = 3; seed = 79; stream = 0; tell = true; trace = (Idle ∷ Idle ∷ Idle ∷ Idle ∷ Idle ∷ Idle ∷ Idle ∷ Idle ∷ Idle ∷ Idle ∷ Read 0 0 1 ∷ Read 1 0 1 ∷ Read 2 0 1 ∷ Read 3 0 1 ∷ Read 4 0 1 ∷ Read 5 0 1 ∷ Idle ∷ Idle ∷ Read 0 0 1 ∷ Read 1 0 1 ∷ Read 2 0 1 ∷ Read 3 0 1 ∷ []) } } ∷
-      record { name = codes "x"; config = record { size = 4; min = 4; shares = 1000; samples = 100; period = 1000; rate = 16; quantum = 3; seed = 0; stream = 0; tell = true; trace = ([]) } } ∷ []);
+      record { name = codes "a"; config = record { size = 9; min = 3; shares = 100; samples = 1; period = 6; rate = 4; quantum = 3; seed = 27; stream = 0; tell = true; own_driver = true; page = 4; trace = (Idle ∷ Idle ∷ Idle ∷ Idle ∷ Idle ∷ Idle ∷ Idle ∷ Idle ∷ Idle ∷ Idle ∷ Read 0 0 1 ∷ Read 0 0 1 ∷ Read 1 0 1 ∷ Read 2 0 1 ∷ []) } } ∷
+      record { name = codes "b"; config = record { size = 9; min = 1; shares = 100; samples = 1; period = 5; rate = 1; quantum = 3; seed = 79; stream = 0; tell = true; own_driver = true; page = 4; trace = (Idle ∷ Idle ∷ Idle ∷ Idle ∷ Idle ∷ Idle ∷ Idle ∷ Idle ∷ Idle ∷ Idle ∷ Read 0 0 1 ∷ Read 1 0 1 ∷ Read 2 0 1 ∷ Read 3 0 1 ∷ Read 4 0 1 ∷ Read 5 0 1 ∷ Idle ∷ Idle ∷ Read 0 0 1 ∷ Read 1 0 1 ∷ Read 2 0 1 ∷ Read 3 0 1 ∷ []) } } ∷
+      record { name = codes "x"; config = record { size = 4; min = 4; shares = 1000; samples = 100; period = 1000; rate = 16; quantum = 3; seed = 0; stream = 0; tell = true; own_driver = true; page = 4; trace = ([]) } } ∷ []);
   autostart = (true ∷ true ∷ false ∷ []);
   commands = (
       record { at = 6; line = codes "start x" } ∷ []);
@@ -255,12 +255,12 @@ woken_2_report = codes "epoch 0\n> start a\nok\n> start b\nok\nstate high free 1
 
 abbrev pub woken_3 : Config
 woken_3 = record {
-  machine = record { frames = 19; swap = 200; overhead = 0; tax = 9900; percent = record { high = 2000; soft = 1500; hard = 800; low = 400 }; page_rate = 2 };
+  machine = record { frames = 19; swap = 200; overhead = 0; tax = 9900; percent = record { high = 2000; soft = 1500; hard = 800; low = 400 }; page_rate = 2; rebalance = 0; page = 4 };
   epochs = 7;
   domains = (
-      record { name = codes "a"; config = record { size = 7; min = 1; shares = 100; samples = 1; period = 1; rate = 1; quantum = 2; seed = 24; stream = 0; tell = true; trace = (Idle ∷ Read 0 0 1 ∷ Read 1 0 1 ∷ Read 2 0 1 ∷ Read 3 0 1 ∷ Read 4 0 1 ∷ Idle ∷ Read 0 0 1 ∷ Read 1 0 1 ∷ Read 2 0 1 ∷ Read 3 0 1 ∷ Read 4 0 1 ∷ Read 5 0 1 ∷ []) } } ∷
-      record { name = codes "b"; config = record { size = 19; min = 1; shares = 100; samples = 5; period = 2; rate = 4; quantum = 2; seed = 47; stream = 0; tell = true; trace = (Idle ∷ Idle ∷ Idle ∷ Idle ∷ Idle ∷ Read 0 0 1 ∷ Read 1 0 1 ∷ Read 2 0 1 ∷ Read 0 0 1 ∷ Read 1 0 1 ∷ Read 2 0 1 ∷ Read 3 0 1 ∷ []) } } ∷
-      record { name = codes "x"; config = record { size = 5; min = 5; shares = 1000; samples = 100; period = 1000; rate = 16; quantum = 2; seed = 0; stream = 0; tell = true; trace = ([]) } } ∷ []);
+      record { name = codes "a"; config = record { size = 7; min = 1; shares = 100; samples = 1; period = 1; rate = 1; quantum = 2; seed = 24; stream = 0; tell = true; own_driver = true; page = 4; trace = (Idle ∷ Read 0 0 1 ∷ Read 1 0 1 ∷ Read 2 0 1 ∷ Read 3 0 1 ∷ Read 4 0 1 ∷ Idle ∷ Read 0 0 1 ∷ Read 1 0 1 ∷ Read 2 0 1 ∷ Read 3 0 1 ∷ Read 4 0 1 ∷ Read 5 0 1 ∷ []) } } ∷
+      record { name = codes "b"; config = record { size = 19; min = 1; shares = 100; samples = 5; period = 2; rate = 4; quantum = 2; seed = 47; stream = 0; tell = true; own_driver = true; page = 4; trace = (Idle ∷ Idle ∷ Idle ∷ Idle ∷ Idle ∷ Read 0 0 1 ∷ Read 1 0 1 ∷ Read 2 0 1 ∷ Read 0 0 1 ∷ Read 1 0 1 ∷ Read 2 0 1 ∷ Read 3 0 1 ∷ []) } } ∷
+      record { name = codes "x"; config = record { size = 5; min = 5; shares = 1000; samples = 100; period = 1000; rate = 16; quantum = 2; seed = 0; stream = 0; tell = true; own_driver = true; page = 4; trace = ([]) } } ∷ []);
   autostart = (true ∷ true ∷ false ∷ []);
   commands = (
       record { at = 6; line = codes "start x" } ∷ []);

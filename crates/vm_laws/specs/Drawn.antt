@@ -6,12 +6,12 @@ use Rattle.vm_trace.specs.declared.step.Queue.TheVariants.{Inflate, Deflate, Sta
 
 abbrev pub drawn_01 : Config
 drawn_01 = record {
-  machine = record { frames = 9; swap = 10; overhead = 0; tax = 5600; percent = record { high = 4800; soft = 3000; hard = 2000; low = 600 }; page_rate = 1 };
+  machine = record { frames = 9; swap = 10; overhead = 0; tax = 5600; percent = record { high = 4800; soft = 3000; hard = 2000; low = 600 }; page_rate = 1; rebalance = 0; page = 4 };
   epochs = 2;
   domains = (
-      record { name = codes "g0"; config = record { size = 4; min = 3; shares = 100; samples = 100; period = 2; rate = 1; quantum = 5; seed = 42; stream = 11807519698829969015; tell = true; trace = (Free 0 ∷ Idle ∷ Free 1 ∷ []) } } ∷
-      record { name = codes "state"; config = record { size = 4; min = 3; shares = 1; samples = 100; period = 10; rate = 2; quantum = 5; seed = 42; stream = 9223372036854775808; tell = true; trace = ([]) } } ∷
-      record { name = codes "b1"; config = record { size = 4; min = 3; shares = 1000; samples = 3; period = 30; rate = 1; quantum = 5; seed = 0; stream = 18446744073709551615; tell = true; trace = (Write 1 250 (81 ∷ 87 ∷ 253 ∷ 188 ∷ 99 ∷ 53 ∷ []) ∷ Read 2 1 12 ∷ []) } } ∷ []);
+      record { name = codes "g0"; config = record { size = 4; min = 3; shares = 100; samples = 100; period = 2; rate = 1; quantum = 5; seed = 42; stream = 11807519698829969015; tell = true; own_driver = true; page = 4; trace = (Free 0 ∷ Idle ∷ Free 1 ∷ []) } } ∷
+      record { name = codes "state"; config = record { size = 4; min = 3; shares = 1; samples = 100; period = 10; rate = 2; quantum = 5; seed = 42; stream = 9223372036854775808; tell = true; own_driver = true; page = 4; trace = ([]) } } ∷
+      record { name = codes "b1"; config = record { size = 4; min = 3; shares = 1000; samples = 3; period = 30; rate = 1; quantum = 5; seed = 0; stream = 18446744073709551615; tell = true; own_driver = true; page = 4; trace = (Write 1 250 (81 ∷ 87 ∷ 253 ∷ 188 ∷ 99 ∷ 53 ∷ []) ∷ Read 2 1 12 ∷ []) } } ∷ []);
   autostart = (true ∷ true ∷ true ∷ []);
   commands = (
       record { at = 0; line = codes " memtune state   --min-guarantee=3   " } ∷
@@ -29,10 +29,10 @@ drawn_01_report = codes "epoch 0\n> start g0\nok\n> start state\nok\n> start b1\
 
 abbrev pub drawn_02 : Config
 drawn_02 = record {
-  machine = record { frames = 9; swap = 8; overhead = 0; tax = 1469; percent = record { high = 9367; soft = 8246; hard = 7020; low = 6900 }; page_rate = 3 };
+  machine = record { frames = 9; swap = 8; overhead = 0; tax = 1469; percent = record { high = 9367; soft = 8246; hard = 7020; low = 6900 }; page_rate = 3; rebalance = 0; page = 4 };
   epochs = 2;
   domains = (
-      record { name = codes "g0"; config = record { size = 8; min = 4; shares = 1724; samples = 34; period = 10; rate = 3; quantum = 1; seed = 18446744073709551615; stream = 9223372036854775808; tell = false; trace = (Read 5 0 1 ∷ Idle ∷ Post Stats (240 ∷ []) ∷ []) } } ∷ []);
+      record { name = codes "g0"; config = record { size = 8; min = 4; shares = 1724; samples = 34; period = 10; rate = 3; quantum = 1; seed = 18446744073709551615; stream = 9223372036854775808; tell = false; own_driver = true; page = 4; trace = (Read 5 0 1 ∷ Idle ∷ Post Stats (240 ∷ []) ∷ []) } } ∷ []);
   autostart = (true ∷ []);
   commands = (
       record { at = 0; line = codes "dommemstat g0" } ∷
@@ -44,12 +44,12 @@ drawn_02_report = codes "epoch 0\n> start g0\nok\n> dommemstat g0\nactual 32\nrs
 
 abbrev pub drawn_03 : Config
 drawn_03 = record {
-  machine = record { frames = 4; swap = 11; overhead = 0; tax = 9300; percent = record { high = 3000; soft = 1900; hard = 1900; low = 1300 }; page_rate = 1 };
+  machine = record { frames = 4; swap = 11; overhead = 0; tax = 9300; percent = record { high = 3000; soft = 1900; hard = 1900; low = 1300 }; page_rate = 1; rebalance = 0; page = 4 };
   epochs = 3;
   domains = (
-      record { name = codes "g0"; config = record { size = 4; min = 1; shares = 1000; samples = 2; period = 7; rate = 2; quantum = 2; seed = 1; stream = 9223372036854775808; tell = true; trace = (Write 1 279 (75 ∷ 41 ∷ 129 ∷ 210 ∷ 164 ∷ 35 ∷ 114 ∷ 165 ∷ 9 ∷ 27 ∷ 89 ∷ 180 ∷ []) ∷ Write 1 8 (82 ∷ []) ∷ Free 1 ∷ Idle ∷ Write 1 3436 (69 ∷ 131 ∷ 58 ∷ 186 ∷ 48 ∷ 194 ∷ 71 ∷ 25 ∷ 95 ∷ 170 ∷ 221 ∷ 231 ∷ 150 ∷ 227 ∷ 224 ∷ 155 ∷ []) ∷ Write 1 0 (222 ∷ 26 ∷ 93 ∷ []) ∷ Write 1 0 (70 ∷ []) ∷ []) } } ∷
-      record { name = codes "1"; config = record { size = 4; min = 1; shares = 1000; samples = 30; period = 50; rate = 16; quantum = 2; seed = 62589; stream = 18446744073709551615; tell = true; trace = (Read 0 0 6 ∷ Read 0 0 4 ∷ Post Deflate (0 ∷ 0 ∷ 0 ∷ 0 ∷ 0 ∷ 0 ∷ 0 ∷ 0 ∷ 0 ∷ 0 ∷ 4 ∷ 0 ∷ []) ∷ Post Inflate (149 ∷ 226 ∷ 19 ∷ 241 ∷ []) ∷ Post Stats (0 ∷ 0 ∷ 211 ∷ 122 ∷ 4 ∷ 0 ∷ 0 ∷ 0 ∷ 0 ∷ 0 ∷ 0 ∷ 0 ∷ 0 ∷ 4 ∷ 0 ∷ 0 ∷ 0 ∷ 0 ∷ 0 ∷ 0 ∷ 0 ∷ 1 ∷ 0 ∷ 16 ∷ 0 ∷ 0 ∷ 0 ∷ 0 ∷ 0 ∷ 0 ∷ 5 ∷ 0 ∷ 0 ∷ 16 ∷ 0 ∷ 0 ∷ 0 ∷ 0 ∷ 0 ∷ 0 ∷ 5 ∷ 0 ∷ 255 ∷ 3 ∷ 0 ∷ 0 ∷ 0 ∷ 0 ∷ 0 ∷ 0 ∷ []) ∷ Post Stats (99 ∷ 0 ∷ 0 ∷ 0 ∷ 1 ∷ 0 ∷ 0 ∷ 0 ∷ 0 ∷ 0 ∷ 159 ∷ 62 ∷ 107 ∷ 239 ∷ 108 ∷ 26 ∷ 161 ∷ 221 ∷ 249 ∷ []) ∷ Post Stats (51 ∷ 108 ∷ 106 ∷ 21 ∷ []) ∷ Post Inflate (0 ∷ 0 ∷ 0 ∷ 0 ∷ 3 ∷ 0 ∷ 0 ∷ 0 ∷ 0 ∷ 0 ∷ 0 ∷ 0 ∷ 3 ∷ 0 ∷ 0 ∷ 0 ∷ []) ∷ Post Deflate (0 ∷ 0 ∷ 0 ∷ 0 ∷ 0 ∷ 0 ∷ 0 ∷ 0 ∷ 0 ∷ 0 ∷ 0 ∷ 0 ∷ 0 ∷ 0 ∷ 0 ∷ 0 ∷ []) ∷ Post Stats (255 ∷ 255 ∷ 0 ∷ 4 ∷ 0 ∷ 0 ∷ 0 ∷ 0 ∷ 0 ∷ 0 ∷ 0 ∷ 0 ∷ 255 ∷ 197 ∷ 113 ∷ 28 ∷ 248 ∷ 21 ∷ 88 ∷ 79 ∷ 3 ∷ 1 ∷ 223 ∷ 254 ∷ 33 ∷ 74 ∷ 30 ∷ 196 ∷ 58 ∷ 187 ∷ 255 ∷ 255 ∷ 1 ∷ 0 ∷ 0 ∷ 0 ∷ 0 ∷ 0 ∷ 0 ∷ 0 ∷ []) ∷ []) } } ∷
-      record { name = codes "state"; config = record { size = 3; min = 1; shares = 2; samples = 30; period = 2; rate = 2; quantum = 2; seed = 0; stream = 17209565127286669561; tell = true; trace = (Read 1 8 2 ∷ Write 2 250 (23 ∷ 54 ∷ []) ∷ Write 0 8 (157 ∷ 135 ∷ []) ∷ Read 1 4095 1 ∷ Read 1 250 1 ∷ Write 1 8 (215 ∷ 97 ∷ 248 ∷ 188 ∷ 155 ∷ 29 ∷ 48 ∷ 66 ∷ 16 ∷ []) ∷ Write 0 4094 (91 ∷ 223 ∷ []) ∷ Write 1 0 (6 ∷ 255 ∷ []) ∷ Read 1 0 2 ∷ Read 1 4095 1 ∷ []) } } ∷ []);
+      record { name = codes "g0"; config = record { size = 4; min = 1; shares = 1000; samples = 2; period = 7; rate = 2; quantum = 2; seed = 1; stream = 9223372036854775808; tell = true; own_driver = true; page = 4; trace = (Write 1 279 (75 ∷ 41 ∷ 129 ∷ 210 ∷ 164 ∷ 35 ∷ 114 ∷ 165 ∷ 9 ∷ 27 ∷ 89 ∷ 180 ∷ []) ∷ Write 1 8 (82 ∷ []) ∷ Free 1 ∷ Idle ∷ Write 1 3436 (69 ∷ 131 ∷ 58 ∷ 186 ∷ 48 ∷ 194 ∷ 71 ∷ 25 ∷ 95 ∷ 170 ∷ 221 ∷ 231 ∷ 150 ∷ 227 ∷ 224 ∷ 155 ∷ []) ∷ Write 1 0 (222 ∷ 26 ∷ 93 ∷ []) ∷ Write 1 0 (70 ∷ []) ∷ []) } } ∷
+      record { name = codes "1"; config = record { size = 4; min = 1; shares = 1000; samples = 30; period = 50; rate = 16; quantum = 2; seed = 62589; stream = 18446744073709551615; tell = true; own_driver = true; page = 4; trace = (Read 0 0 6 ∷ Read 0 0 4 ∷ Post Deflate (0 ∷ 0 ∷ 0 ∷ 0 ∷ 0 ∷ 0 ∷ 0 ∷ 0 ∷ 0 ∷ 0 ∷ 4 ∷ 0 ∷ []) ∷ Post Inflate (149 ∷ 226 ∷ 19 ∷ 241 ∷ []) ∷ Post Stats (0 ∷ 0 ∷ 211 ∷ 122 ∷ 4 ∷ 0 ∷ 0 ∷ 0 ∷ 0 ∷ 0 ∷ 0 ∷ 0 ∷ 0 ∷ 4 ∷ 0 ∷ 0 ∷ 0 ∷ 0 ∷ 0 ∷ 0 ∷ 0 ∷ 1 ∷ 0 ∷ 16 ∷ 0 ∷ 0 ∷ 0 ∷ 0 ∷ 0 ∷ 0 ∷ 5 ∷ 0 ∷ 0 ∷ 16 ∷ 0 ∷ 0 ∷ 0 ∷ 0 ∷ 0 ∷ 0 ∷ 5 ∷ 0 ∷ 255 ∷ 3 ∷ 0 ∷ 0 ∷ 0 ∷ 0 ∷ 0 ∷ 0 ∷ []) ∷ Post Stats (99 ∷ 0 ∷ 0 ∷ 0 ∷ 1 ∷ 0 ∷ 0 ∷ 0 ∷ 0 ∷ 0 ∷ 159 ∷ 62 ∷ 107 ∷ 239 ∷ 108 ∷ 26 ∷ 161 ∷ 221 ∷ 249 ∷ []) ∷ Post Stats (51 ∷ 108 ∷ 106 ∷ 21 ∷ []) ∷ Post Inflate (0 ∷ 0 ∷ 0 ∷ 0 ∷ 3 ∷ 0 ∷ 0 ∷ 0 ∷ 0 ∷ 0 ∷ 0 ∷ 0 ∷ 3 ∷ 0 ∷ 0 ∷ 0 ∷ []) ∷ Post Deflate (0 ∷ 0 ∷ 0 ∷ 0 ∷ 0 ∷ 0 ∷ 0 ∷ 0 ∷ 0 ∷ 0 ∷ 0 ∷ 0 ∷ 0 ∷ 0 ∷ 0 ∷ 0 ∷ []) ∷ Post Stats (255 ∷ 255 ∷ 0 ∷ 4 ∷ 0 ∷ 0 ∷ 0 ∷ 0 ∷ 0 ∷ 0 ∷ 0 ∷ 0 ∷ 255 ∷ 197 ∷ 113 ∷ 28 ∷ 248 ∷ 21 ∷ 88 ∷ 79 ∷ 3 ∷ 1 ∷ 223 ∷ 254 ∷ 33 ∷ 74 ∷ 30 ∷ 196 ∷ 58 ∷ 187 ∷ 255 ∷ 255 ∷ 1 ∷ 0 ∷ 0 ∷ 0 ∷ 0 ∷ 0 ∷ 0 ∷ 0 ∷ []) ∷ []) } } ∷
+      record { name = codes "state"; config = record { size = 3; min = 1; shares = 2; samples = 30; period = 2; rate = 2; quantum = 2; seed = 0; stream = 17209565127286669561; tell = true; own_driver = true; page = 4; trace = (Read 1 8 2 ∷ Write 2 250 (23 ∷ 54 ∷ []) ∷ Write 0 8 (157 ∷ 135 ∷ []) ∷ Read 1 4095 1 ∷ Read 1 250 1 ∷ Write 1 8 (215 ∷ 97 ∷ 248 ∷ 188 ∷ 155 ∷ 29 ∷ 48 ∷ 66 ∷ 16 ∷ []) ∷ Write 0 4094 (91 ∷ 223 ∷ []) ∷ Write 1 0 (6 ∷ 255 ∷ []) ∷ Read 1 0 2 ∷ Read 1 4095 1 ∷ []) } } ∷ []);
   autostart = (true ∷ true ∷ false ∷ []);
   commands = (
       record { at = 0; line = codes "setmem g0 13kIB" } ∷
@@ -65,12 +65,12 @@ drawn_03_report = codes "epoch 0\n> start g0\nok\n> start 1\nok\n> setmem g0 13k
 
 abbrev pub drawn_04 : Config
 drawn_04 = record {
-  machine = record { frames = 10; swap = 24; overhead = 0; tax = 0; percent = record { high = 2825; soft = 2683; hard = 2407; low = 615 }; page_rate = 5 };
+  machine = record { frames = 10; swap = 24; overhead = 0; tax = 0; percent = record { high = 2825; soft = 2683; hard = 2407; low = 615 }; page_rate = 5; rebalance = 0; page = 4 };
   epochs = 2;
   domains = (
-      record { name = codes "state"; config = record { size = 8; min = 1; shares = 1000; samples = 100; period = 1000; rate = 4; quantum = 3; seed = 0; stream = 18446744073709551615; tell = false; trace = (Read 7 2165 1 ∷ Read 7 0 6 ∷ Write 7 1 (90 ∷ 67 ∷ 129 ∷ []) ∷ Read 7 2640 2 ∷ []) } } ∷
-      record { name = codes "g1"; config = record { size = 8; min = 1; shares = 1000; samples = 1; period = 1000; rate = 16; quantum = 3; seed = 23817; stream = 0; tell = true; trace = (Idle ∷ Post Stats (5 ∷ 0 ∷ 99 ∷ 233 ∷ 208 ∷ 235 ∷ 91 ∷ 105 ∷ 164 ∷ 61 ∷ 0 ∷ 1 ∷ 0 ∷ 16 ∷ 0 ∷ 0 ∷ 0 ∷ 0 ∷ 0 ∷ 0 ∷ 1 ∷ 0 ∷ 0 ∷ 0 ∷ 1 ∷ 0 ∷ 0 ∷ 0 ∷ 0 ∷ 0 ∷ 3 ∷ 1 ∷ 0 ∷ 4 ∷ 0 ∷ 0 ∷ 0 ∷ 0 ∷ 0 ∷ 0 ∷ 0 ∷ 0 ∷ 255 ∷ 255 ∷ 255 ∷ 255 ∷ 255 ∷ 255 ∷ 255 ∷ 255 ∷ 1 ∷ 0 ∷ 1 ∷ 0 ∷ 0 ∷ 0 ∷ 0 ∷ 0 ∷ 0 ∷ 0 ∷ []) ∷ Read 5 8 2 ∷ Write 5 4083 (196 ∷ 41 ∷ 89 ∷ 24 ∷ 229 ∷ 11 ∷ 124 ∷ 35 ∷ 228 ∷ 100 ∷ 237 ∷ 134 ∷ 131 ∷ []) ∷ []) } } ∷
-      record { name = codes "x.y"; config = record { size = 8; min = 1; shares = 1000; samples = 10; period = 1000; rate = 16; quantum = 3; seed = 0; stream = 9223372036854775808; tell = false; trace = ([]) } } ∷ []);
+      record { name = codes "state"; config = record { size = 8; min = 1; shares = 1000; samples = 100; period = 1000; rate = 4; quantum = 3; seed = 0; stream = 18446744073709551615; tell = false; own_driver = true; page = 4; trace = (Read 7 2165 1 ∷ Read 7 0 6 ∷ Write 7 1 (90 ∷ 67 ∷ 129 ∷ []) ∷ Read 7 2640 2 ∷ []) } } ∷
+      record { name = codes "g1"; config = record { size = 8; min = 1; shares = 1000; samples = 1; period = 1000; rate = 16; quantum = 3; seed = 23817; stream = 0; tell = true; own_driver = true; page = 4; trace = (Idle ∷ Post Stats (5 ∷ 0 ∷ 99 ∷ 233 ∷ 208 ∷ 235 ∷ 91 ∷ 105 ∷ 164 ∷ 61 ∷ 0 ∷ 1 ∷ 0 ∷ 16 ∷ 0 ∷ 0 ∷ 0 ∷ 0 ∷ 0 ∷ 0 ∷ 1 ∷ 0 ∷ 0 ∷ 0 ∷ 1 ∷ 0 ∷ 0 ∷ 0 ∷ 0 ∷ 0 ∷ 3 ∷ 1 ∷ 0 ∷ 4 ∷ 0 ∷ 0 ∷ 0 ∷ 0 ∷ 0 ∷ 0 ∷ 0 ∷ 0 ∷ 255 ∷ 255 ∷ 255 ∷ 255 ∷ 255 ∷ 255 ∷ 255 ∷ 255 ∷ 1 ∷ 0 ∷ 1 ∷ 0 ∷ 0 ∷ 0 ∷ 0 ∷ 0 ∷ 0 ∷ 0 ∷ []) ∷ Read 5 8 2 ∷ Write 5 4083 (196 ∷ 41 ∷ 89 ∷ 24 ∷ 229 ∷ 11 ∷ 124 ∷ 35 ∷ 228 ∷ 100 ∷ 237 ∷ 134 ∷ 131 ∷ []) ∷ []) } } ∷
+      record { name = codes "x.y"; config = record { size = 8; min = 1; shares = 1000; samples = 10; period = 1000; rate = 16; quantum = 3; seed = 0; stream = 9223372036854775808; tell = false; own_driver = true; page = 4; trace = ([]) } } ∷ []);
   autostart = (false ∷ false ∷ false ∷ []);
   commands = (
       record { at = 0; line = codes "start x.y" } ∷
@@ -85,10 +85,10 @@ drawn_04_report = codes "epoch 0\n> start x.y\nok\n> setmem x.y 6\nok\n> start s
 
 abbrev pub drawn_05 : Config
 drawn_05 = record {
-  machine = record { frames = 9; swap = 8; overhead = 1; tax = 9672; percent = record { high = 1653; soft = 1512; hard = 674; low = 525 }; page_rate = 16 };
+  machine = record { frames = 9; swap = 8; overhead = 1; tax = 9672; percent = record { high = 1653; soft = 1512; hard = 674; low = 525 }; page_rate = 16; rebalance = 0; page = 4 };
   epochs = 5;
   domains = (
-      record { name = codes "g0"; config = record { size = 8; min = 2; shares = 1000000; samples = 4; period = 50; rate = 4; quantum = 5; seed = 0; stream = 18446744073709551615; tell = false; trace = (Read 6 2967 2 ∷ Read 7 1384 10 ∷ Write 0 0 (65 ∷ []) ∷ Read 1 1 2 ∷ Post Stats (3 ∷ 1 ∷ 0 ∷ 4 ∷ 0 ∷ 0 ∷ 0 ∷ 0 ∷ 0 ∷ 0 ∷ []) ∷ Read 3 0 7 ∷ Post Inflate (6 ∷ 0 ∷ 0 ∷ 0 ∷ []) ∷ Read 7 2206 1 ∷ Write 7 4095 (157 ∷ []) ∷ Write 6 4093 (59 ∷ 56 ∷ 95 ∷ []) ∷ []) } } ∷ []);
+      record { name = codes "g0"; config = record { size = 8; min = 2; shares = 1000000; samples = 4; period = 50; rate = 4; quantum = 5; seed = 0; stream = 18446744073709551615; tell = false; own_driver = true; page = 4; trace = (Read 6 2967 2 ∷ Read 7 1384 10 ∷ Write 0 0 (65 ∷ []) ∷ Read 1 1 2 ∷ Post Stats (3 ∷ 1 ∷ 0 ∷ 4 ∷ 0 ∷ 0 ∷ 0 ∷ 0 ∷ 0 ∷ 0 ∷ []) ∷ Read 3 0 7 ∷ Post Inflate (6 ∷ 0 ∷ 0 ∷ 0 ∷ []) ∷ Read 7 2206 1 ∷ Write 7 4095 (157 ∷ []) ∷ Write 6 4093 (59 ∷ 56 ∷ 95 ∷ []) ∷ []) } } ∷ []);
   autostart = (true ∷ []);
   commands = (
       record { at = 1; line = codes "setmem g0 0000000000028" } ∷
@@ -101,12 +101,12 @@ drawn_05_report = codes "epoch 0\n> start g0\nok\nstate high free 6\ngrant g0 5\
 
 abbrev pub drawn_06 : Config
 drawn_06 = record {
-  machine = record { frames = 10; swap = 20; overhead = 0; tax = 2986; percent = record { high = 1400; soft = 900; hard = 600; low = 400 }; page_rate = 3 };
+  machine = record { frames = 10; swap = 20; overhead = 0; tax = 2986; percent = record { high = 1400; soft = 900; hard = 600; low = 400 }; page_rate = 3; rebalance = 0; page = 4 };
   epochs = 2;
   domains = (
-      record { name = codes "g0"; config = record { size = 5; min = 1; shares = 2619; samples = 100; period = 20; rate = 1; quantum = 1; seed = 0; stream = 9223372036854775808; tell = false; trace = (Read 0 250 2 ∷ Post Inflate (24 ∷ 83 ∷ 174 ∷ 243 ∷ 0 ∷ 0 ∷ 0 ∷ 0 ∷ 5 ∷ 0 ∷ 0 ∷ 0 ∷ []) ∷ Post Stats (173 ∷ 74 ∷ 9 ∷ 94 ∷ 51 ∷ 116 ∷ 28 ∷ 143 ∷ []) ∷ Post Inflate (0 ∷ 0 ∷ 0 ∷ 0 ∷ 0 ∷ 0 ∷ 0 ∷ 0 ∷ 1 ∷ 0 ∷ 0 ∷ 0 ∷ 0 ∷ 0 ∷ 0 ∷ 0 ∷ 0 ∷ 0 ∷ 0 ∷ 0 ∷ 0 ∷ 0 ∷ 0 ∷ 0 ∷ []) ∷ []) } } ∷
-      record { name = codes "c"; config = record { size = 10; min = 1; shares = 1000; samples = 2; period = 20; rate = 256; quantum = 1; seed = 39457; stream = 15897360307207277945; tell = false; trace = (Write 0 0 (181 ∷ 60 ∷ []) ∷ []) } } ∷
-      record { name = codes "g2"; config = record { size = 10; min = 3; shares = 1000000; samples = 32; period = 1; rate = 3; quantum = 1; seed = 0; stream = 0; tell = false; trace = ([]) } } ∷ []);
+      record { name = codes "g0"; config = record { size = 5; min = 1; shares = 2619; samples = 100; period = 20; rate = 1; quantum = 1; seed = 0; stream = 9223372036854775808; tell = false; own_driver = true; page = 4; trace = (Read 0 250 2 ∷ Post Inflate (24 ∷ 83 ∷ 174 ∷ 243 ∷ 0 ∷ 0 ∷ 0 ∷ 0 ∷ 5 ∷ 0 ∷ 0 ∷ 0 ∷ []) ∷ Post Stats (173 ∷ 74 ∷ 9 ∷ 94 ∷ 51 ∷ 116 ∷ 28 ∷ 143 ∷ []) ∷ Post Inflate (0 ∷ 0 ∷ 0 ∷ 0 ∷ 0 ∷ 0 ∷ 0 ∷ 0 ∷ 1 ∷ 0 ∷ 0 ∷ 0 ∷ 0 ∷ 0 ∷ 0 ∷ 0 ∷ 0 ∷ 0 ∷ 0 ∷ 0 ∷ 0 ∷ 0 ∷ 0 ∷ 0 ∷ []) ∷ []) } } ∷
+      record { name = codes "c"; config = record { size = 10; min = 1; shares = 1000; samples = 2; period = 20; rate = 256; quantum = 1; seed = 39457; stream = 15897360307207277945; tell = false; own_driver = true; page = 4; trace = (Write 0 0 (181 ∷ 60 ∷ []) ∷ []) } } ∷
+      record { name = codes "g2"; config = record { size = 10; min = 3; shares = 1000000; samples = 32; period = 1; rate = 3; quantum = 1; seed = 0; stream = 0; tell = false; own_driver = true; page = 4; trace = ([]) } } ∷ []);
   autostart = (true ∷ true ∷ false ∷ []);
   commands = (
       record { at = 1; line = codes "start g2" } ∷
@@ -124,11 +124,11 @@ drawn_06_report = codes "epoch 0\n> start g0\nok\n> start c\nok\n> memshares g0 
 
 abbrev pub drawn_07 : Config
 drawn_07 = record {
-  machine = record { frames = 5; swap = 6; overhead = 0; tax = 9900; percent = record { high = 4000; soft = 3700; hard = 2500; low = 1500 }; page_rate = 2 };
+  machine = record { frames = 5; swap = 6; overhead = 0; tax = 9900; percent = record { high = 4000; soft = 3700; hard = 2500; low = 1500 }; page_rate = 2; rebalance = 0; page = 4 };
   epochs = 3;
   domains = (
-      record { name = codes "g0"; config = record { size = 4; min = 1; shares = 1000000; samples = 1; period = 10; rate = 2; quantum = 1; seed = 18446744073709551615; stream = 18446744073709551615; tell = true; trace = (Read 1 4093 3 ∷ Read 0 4093 3 ∷ Write 0 1 (119 ∷ []) ∷ Read 3 8 2 ∷ Write 3 1 (93 ∷ []) ∷ Write 1 250 (183 ∷ 95 ∷ []) ∷ Write 2 1224 (16 ∷ 142 ∷ 255 ∷ []) ∷ Write 1 4091 (179 ∷ 16 ∷ 206 ∷ 244 ∷ 54 ∷ []) ∷ Write 2 250 (93 ∷ 150 ∷ 161 ∷ []) ∷ Write 1 2794 (192 ∷ 185 ∷ 245 ∷ 155 ∷ 143 ∷ 55 ∷ 89 ∷ 249 ∷ 121 ∷ []) ∷ []) } } ∷
-      record { name = codes "g1"; config = record { size = 2; min = 1; shares = 1000; samples = 100; period = 33; rate = 16; quantum = 1; seed = 42; stream = 0; tell = true; trace = (Post Stats (103 ∷ 199 ∷ 134 ∷ 9 ∷ []) ∷ Post Deflate (1 ∷ 0 ∷ 0 ∷ 0 ∷ 0 ∷ 0 ∷ 0 ∷ 0 ∷ 1 ∷ 0 ∷ 0 ∷ 0 ∷ 1 ∷ 0 ∷ 0 ∷ 0 ∷ 0 ∷ 0 ∷ 0 ∷ 0 ∷ 1 ∷ 0 ∷ 0 ∷ 0 ∷ []) ∷ Post Inflate (1 ∷ 0 ∷ 0 ∷ 0 ∷ 1 ∷ 0 ∷ 0 ∷ 0 ∷ []) ∷ Post Stats (0 ∷ 0 ∷ 255 ∷ 255 ∷ 255 ∷ 255 ∷ 255 ∷ 255 ∷ 255 ∷ 255 ∷ 51 ∷ 124 ∷ 37 ∷ 177 ∷ 227 ∷ 109 ∷ 3 ∷ 77 ∷ []) ∷ Post Deflate (1 ∷ 0 ∷ 0 ∷ 0 ∷ 1 ∷ 0 ∷ 0 ∷ 0 ∷ 1 ∷ 0 ∷ 0 ∷ 0 ∷ 0 ∷ 0 ∷ 0 ∷ 0 ∷ 1 ∷ 0 ∷ 0 ∷ 0 ∷ 151 ∷ 144 ∷ 238 ∷ 211 ∷ 1 ∷ 0 ∷ 0 ∷ 0 ∷ 1 ∷ 0 ∷ 0 ∷ 0 ∷ []) ∷ Post Deflate (174 ∷ 32 ∷ 88 ∷ 64 ∷ 1 ∷ 0 ∷ 0 ∷ 0 ∷ 0 ∷ 0 ∷ 0 ∷ 0 ∷ 100 ∷ 15 ∷ 105 ∷ 106 ∷ 0 ∷ 0 ∷ 0 ∷ 0 ∷ 1 ∷ 0 ∷ 0 ∷ 0 ∷ 41 ∷ 9 ∷ 231 ∷ []) ∷ Post Stats (53 ∷ []) ∷ Post Stats (0 ∷ 0 ∷ 1 ∷ 0 ∷ 0 ∷ 0 ∷ 0 ∷ 0 ∷ 0 ∷ 0 ∷ 4 ∷ 0 ∷ 111 ∷ 69 ∷ 14 ∷ 0 ∷ 0 ∷ 0 ∷ 0 ∷ 0 ∷ []) ∷ Post Deflate (0 ∷ 0 ∷ 0 ∷ 0 ∷ 1 ∷ 0 ∷ 0 ∷ 0 ∷ 0 ∷ 0 ∷ 0 ∷ 0 ∷ 0 ∷ 0 ∷ 0 ∷ 0 ∷ 223 ∷ 83 ∷ 248 ∷ 133 ∷ []) ∷ Post Deflate (1 ∷ 0 ∷ 0 ∷ 0 ∷ []) ∷ []) } } ∷ []);
+      record { name = codes "g0"; config = record { size = 4; min = 1; shares = 1000000; samples = 1; period = 10; rate = 2; quantum = 1; seed = 18446744073709551615; stream = 18446744073709551615; tell = true; own_driver = true; page = 4; trace = (Read 1 4093 3 ∷ Read 0 4093 3 ∷ Write 0 1 (119 ∷ []) ∷ Read 3 8 2 ∷ Write 3 1 (93 ∷ []) ∷ Write 1 250 (183 ∷ 95 ∷ []) ∷ Write 2 1224 (16 ∷ 142 ∷ 255 ∷ []) ∷ Write 1 4091 (179 ∷ 16 ∷ 206 ∷ 244 ∷ 54 ∷ []) ∷ Write 2 250 (93 ∷ 150 ∷ 161 ∷ []) ∷ Write 1 2794 (192 ∷ 185 ∷ 245 ∷ 155 ∷ 143 ∷ 55 ∷ 89 ∷ 249 ∷ 121 ∷ []) ∷ []) } } ∷
+      record { name = codes "g1"; config = record { size = 2; min = 1; shares = 1000; samples = 100; period = 33; rate = 16; quantum = 1; seed = 42; stream = 0; tell = true; own_driver = true; page = 4; trace = (Post Stats (103 ∷ 199 ∷ 134 ∷ 9 ∷ []) ∷ Post Deflate (1 ∷ 0 ∷ 0 ∷ 0 ∷ 0 ∷ 0 ∷ 0 ∷ 0 ∷ 1 ∷ 0 ∷ 0 ∷ 0 ∷ 1 ∷ 0 ∷ 0 ∷ 0 ∷ 0 ∷ 0 ∷ 0 ∷ 0 ∷ 1 ∷ 0 ∷ 0 ∷ 0 ∷ []) ∷ Post Inflate (1 ∷ 0 ∷ 0 ∷ 0 ∷ 1 ∷ 0 ∷ 0 ∷ 0 ∷ []) ∷ Post Stats (0 ∷ 0 ∷ 255 ∷ 255 ∷ 255 ∷ 255 ∷ 255 ∷ 255 ∷ 255 ∷ 255 ∷ 51 ∷ 124 ∷ 37 ∷ 177 ∷ 227 ∷ 109 ∷ 3 ∷ 77 ∷ []) ∷ Post Deflate (1 ∷ 0 ∷ 0 ∷ 0 ∷ 1 ∷ 0 ∷ 0 ∷ 0 ∷ 1 ∷ 0 ∷ 0 ∷ 0 ∷ 0 ∷ 0 ∷ 0 ∷ 0 ∷ 1 ∷ 0 ∷ 0 ∷ 0 ∷ 151 ∷ 144 ∷ 238 ∷ 211 ∷ 1 ∷ 0 ∷ 0 ∷ 0 ∷ 1 ∷ 0 ∷ 0 ∷ 0 ∷ []) ∷ Post Deflate (174 ∷ 32 ∷ 88 ∷ 64 ∷ 1 ∷ 0 ∷ 0 ∷ 0 ∷ 0 ∷ 0 ∷ 0 ∷ 0 ∷ 100 ∷ 15 ∷ 105 ∷ 106 ∷ 0 ∷ 0 ∷ 0 ∷ 0 ∷ 1 ∷ 0 ∷ 0 ∷ 0 ∷ 41 ∷ 9 ∷ 231 ∷ []) ∷ Post Stats (53 ∷ []) ∷ Post Stats (0 ∷ 0 ∷ 1 ∷ 0 ∷ 0 ∷ 0 ∷ 0 ∷ 0 ∷ 0 ∷ 0 ∷ 4 ∷ 0 ∷ 111 ∷ 69 ∷ 14 ∷ 0 ∷ 0 ∷ 0 ∷ 0 ∷ 0 ∷ []) ∷ Post Deflate (0 ∷ 0 ∷ 0 ∷ 0 ∷ 1 ∷ 0 ∷ 0 ∷ 0 ∷ 0 ∷ 0 ∷ 0 ∷ 0 ∷ 0 ∷ 0 ∷ 0 ∷ 0 ∷ 223 ∷ 83 ∷ 248 ∷ 133 ∷ []) ∷ Post Deflate (1 ∷ 0 ∷ 0 ∷ 0 ∷ []) ∷ []) } } ∷ []);
   autostart = (true ∷ true ∷ []);
   commands = (
       record { at = 1; line = codes "memtune g0 --min-guarantee 8k8" } ∷
@@ -152,12 +152,12 @@ drawn_07_report = codes "epoch 0\n> start g0\nok\n> start g1\nok\n> destroy g1\n
 
 abbrev pub drawn_08 : Config
 drawn_08 = record {
-  machine = record { frames = 6; swap = 9; overhead = 0; tax = 7500; percent = record { high = 800; soft = 800; hard = 700; low = 500 }; page_rate = 1 };
+  machine = record { frames = 6; swap = 9; overhead = 0; tax = 7500; percent = record { high = 800; soft = 800; hard = 700; low = 500 }; page_rate = 1; rebalance = 0; page = 4 };
   epochs = 3;
   domains = (
-      record { name = codes "g0"; config = record { size = 3; min = 1; shares = 100; samples = 30; period = 1000; rate = 16; quantum = 3; seed = 42; stream = 18446744073709551615; tell = false; trace = ([]) } } ∷
-      record { name = codes "g-1"; config = record { size = 3; min = 1; shares = 1000000; samples = 3; period = 10; rate = 4; quantum = 3; seed = 49958; stream = 18446744073709551615; tell = false; trace = (Idle ∷ Post Inflate (4 ∷ 0 ∷ 0 ∷ 0 ∷ []) ∷ Post Deflate (0 ∷ 0 ∷ 0 ∷ 0 ∷ []) ∷ Post Inflate (0 ∷ 0 ∷ 0 ∷ 0 ∷ 0 ∷ 0 ∷ 0 ∷ 0 ∷ 14 ∷ 89 ∷ 151 ∷ []) ∷ []) } } ∷
-      record { name = codes "c"; config = record { size = 6; min = 1; shares = 1000000; samples = 100; period = 2; rate = 2; quantum = 3; seed = 42; stream = 0; tell = false; trace = (Free 1 ∷ Read 2 750 1 ∷ Read 3 1 15 ∷ Write 0 1 (216 ∷ 212 ∷ 186 ∷ 162 ∷ 190 ∷ 80 ∷ []) ∷ []) } } ∷ []);
+      record { name = codes "g0"; config = record { size = 3; min = 1; shares = 100; samples = 30; period = 1000; rate = 16; quantum = 3; seed = 42; stream = 18446744073709551615; tell = false; own_driver = true; page = 4; trace = ([]) } } ∷
+      record { name = codes "g-1"; config = record { size = 3; min = 1; shares = 1000000; samples = 3; period = 10; rate = 4; quantum = 3; seed = 49958; stream = 18446744073709551615; tell = false; own_driver = true; page = 4; trace = (Idle ∷ Post Inflate (4 ∷ 0 ∷ 0 ∷ 0 ∷ []) ∷ Post Deflate (0 ∷ 0 ∷ 0 ∷ 0 ∷ []) ∷ Post Inflate (0 ∷ 0 ∷ 0 ∷ 0 ∷ 0 ∷ 0 ∷ 0 ∷ 0 ∷ 14 ∷ 89 ∷ 151 ∷ []) ∷ []) } } ∷
+      record { name = codes "c"; config = record { size = 6; min = 1; shares = 1000000; samples = 100; period = 2; rate = 2; quantum = 3; seed = 42; stream = 0; tell = false; own_driver = true; page = 4; trace = (Free 1 ∷ Read 2 750 1 ∷ Read 3 1 15 ∷ Write 0 1 (216 ∷ 212 ∷ 186 ∷ 162 ∷ 190 ∷ 80 ∷ []) ∷ []) } } ∷ []);
   autostart = (true ∷ true ∷ true ∷ []);
   commands = (
       record { at = 0; line = codes "start g-1" } ∷
@@ -175,13 +175,13 @@ drawn_08_report = codes "epoch 0\n> start g0\nok\n> start g-1\nok\n> start c\nok
 
 abbrev pub drawn_09 : Config
 drawn_09 = record {
-  machine = record { frames = 6; swap = 4194304; overhead = 0; tax = 9999; percent = record { high = 2823; soft = 2701; hard = 1282; low = 118 }; page_rate = 1 };
+  machine = record { frames = 6; swap = 4194304; overhead = 0; tax = 9999; percent = record { high = 2823; soft = 2701; hard = 1282; low = 118 }; page_rate = 1; rebalance = 0; page = 4 };
   epochs = 2;
   domains = (
-      record { name = codes ".X_Y_9Z010c-a_XZ00Y_-X0.-0090.b"; config = record { size = 5; min = 1; shares = 720156; samples = 100; period = 1000; rate = 16; quantum = 1; seed = 25463; stream = 18446744073709551615; tell = false; trace = (Read 4 0 2 ∷ Read 4 0 1 ∷ Read 4 1222 11 ∷ Read 4 0 2 ∷ Read 4 1 1 ∷ Read 4 8 2 ∷ Read 4 0 15 ∷ Read 4 4093 3 ∷ Read 4 0 9 ∷ Read 4 4086 10 ∷ Read 2 4093 3 ∷ []) } } ∷
-      record { name = codes "g1"; config = record { size = 2; min = 1; shares = 1000; samples = 100; period = 1000; rate = 256; quantum = 1; seed = 10410; stream = 3991327319096964887; tell = false; trace = (Read 0 419 10 ∷ Read 1 0 1 ∷ []) } } ∷
-      record { name = codes "."; config = record { size = 2; min = 1; shares = 1; samples = 10; period = 10; rate = 16; quantum = 1; seed = 0; stream = 0; tell = true; trace = (Free 0 ∷ Write 0 250 (8 ∷ 199 ∷ 244 ∷ 112 ∷ 230 ∷ []) ∷ Write 0 3516 (112 ∷ 45 ∷ []) ∷ []) } } ∷
-      record { name = codes "x.y"; config = record { size = 2; min = 2; shares = 1000; samples = 3; period = 5; rate = 30; quantum = 1; seed = 43771; stream = 0; tell = false; trace = (Read 1 1 1 ∷ Idle ∷ Idle ∷ Read 1 4089 7 ∷ Idle ∷ Idle ∷ Idle ∷ Idle ∷ Idle ∷ Idle ∷ Write 0 8 (210 ∷ []) ∷ Write 0 250 (205 ∷ 138 ∷ 142 ∷ 255 ∷ 213 ∷ 247 ∷ 165 ∷ 252 ∷ []) ∷ Idle ∷ Free 1 ∷ Post Stats (1 ∷ 0 ∷ 230 ∷ 247 ∷ 2 ∷ 0 ∷ 0 ∷ 0 ∷ 0 ∷ 0 ∷ 2 ∷ 0 ∷ 255 ∷ 255 ∷ 255 ∷ 255 ∷ 255 ∷ 255 ∷ 255 ∷ 255 ∷ []) ∷ Post Stats (5 ∷ 0 ∷ 0 ∷ 16 ∷ 0 ∷ 0 ∷ 0 ∷ 0 ∷ 0 ∷ 0 ∷ 3 ∷ 0 ∷ 0 ∷ 0 ∷ 1 ∷ 0 ∷ 0 ∷ 0 ∷ 0 ∷ 0 ∷ []) ∷ Write 0 0 (218 ∷ 75 ∷ 70 ∷ 209 ∷ 191 ∷ 220 ∷ 205 ∷ 132 ∷ 251 ∷ 17 ∷ 88 ∷ 54 ∷ 223 ∷ 188 ∷ 72 ∷ []) ∷ Post Deflate (0 ∷ 0 ∷ 0 ∷ 0 ∷ 0 ∷ 0 ∷ 0 ∷ 0 ∷ 1 ∷ 0 ∷ 0 ∷ 0 ∷ 0 ∷ 0 ∷ 0 ∷ 0 ∷ 0 ∷ 0 ∷ 0 ∷ 0 ∷ 0 ∷ 0 ∷ 0 ∷ 0 ∷ []) ∷ Post Deflate (122 ∷ []) ∷ Read 0 2083 3 ∷ []) } } ∷ []);
+      record { name = codes ".X_Y_9Z010c-a_XZ00Y_-X0.-0090.b"; config = record { size = 5; min = 1; shares = 720156; samples = 100; period = 1000; rate = 16; quantum = 1; seed = 25463; stream = 18446744073709551615; tell = false; own_driver = true; page = 4; trace = (Read 4 0 2 ∷ Read 4 0 1 ∷ Read 4 1222 11 ∷ Read 4 0 2 ∷ Read 4 1 1 ∷ Read 4 8 2 ∷ Read 4 0 15 ∷ Read 4 4093 3 ∷ Read 4 0 9 ∷ Read 4 4086 10 ∷ Read 2 4093 3 ∷ []) } } ∷
+      record { name = codes "g1"; config = record { size = 2; min = 1; shares = 1000; samples = 100; period = 1000; rate = 256; quantum = 1; seed = 10410; stream = 3991327319096964887; tell = false; own_driver = true; page = 4; trace = (Read 0 419 10 ∷ Read 1 0 1 ∷ []) } } ∷
+      record { name = codes "."; config = record { size = 2; min = 1; shares = 1; samples = 10; period = 10; rate = 16; quantum = 1; seed = 0; stream = 0; tell = true; own_driver = true; page = 4; trace = (Free 0 ∷ Write 0 250 (8 ∷ 199 ∷ 244 ∷ 112 ∷ 230 ∷ []) ∷ Write 0 3516 (112 ∷ 45 ∷ []) ∷ []) } } ∷
+      record { name = codes "x.y"; config = record { size = 2; min = 2; shares = 1000; samples = 3; period = 5; rate = 30; quantum = 1; seed = 43771; stream = 0; tell = false; own_driver = true; page = 4; trace = (Read 1 1 1 ∷ Idle ∷ Idle ∷ Read 1 4089 7 ∷ Idle ∷ Idle ∷ Idle ∷ Idle ∷ Idle ∷ Idle ∷ Write 0 8 (210 ∷ []) ∷ Write 0 250 (205 ∷ 138 ∷ 142 ∷ 255 ∷ 213 ∷ 247 ∷ 165 ∷ 252 ∷ []) ∷ Idle ∷ Free 1 ∷ Post Stats (1 ∷ 0 ∷ 230 ∷ 247 ∷ 2 ∷ 0 ∷ 0 ∷ 0 ∷ 0 ∷ 0 ∷ 2 ∷ 0 ∷ 255 ∷ 255 ∷ 255 ∷ 255 ∷ 255 ∷ 255 ∷ 255 ∷ 255 ∷ []) ∷ Post Stats (5 ∷ 0 ∷ 0 ∷ 16 ∷ 0 ∷ 0 ∷ 0 ∷ 0 ∷ 0 ∷ 0 ∷ 3 ∷ 0 ∷ 0 ∷ 0 ∷ 1 ∷ 0 ∷ 0 ∷ 0 ∷ 0 ∷ 0 ∷ []) ∷ Write 0 0 (218 ∷ 75 ∷ 70 ∷ 209 ∷ 191 ∷ 220 ∷ 205 ∷ 132 ∷ 251 ∷ 17 ∷ 88 ∷ 54 ∷ 223 ∷ 188 ∷ 72 ∷ []) ∷ Post Deflate (0 ∷ 0 ∷ 0 ∷ 0 ∷ 0 ∷ 0 ∷ 0 ∷ 0 ∷ 1 ∷ 0 ∷ 0 ∷ 0 ∷ 0 ∷ 0 ∷ 0 ∷ 0 ∷ 0 ∷ 0 ∷ 0 ∷ 0 ∷ 0 ∷ 0 ∷ 0 ∷ 0 ∷ []) ∷ Post Deflate (122 ∷ []) ∷ Read 0 2083 3 ∷ []) } } ∷ []);
   autostart = (true ∷ true ∷ true ∷ false ∷ []);
   commands = (
       record { at = 0; line = codes "memshares .X_Y_9Z010c-a_XZ00Y_-X0.-0090.b 1000" } ∷
@@ -206,12 +206,12 @@ drawn_09_report = codes "epoch 0\n> start .X_Y_9Z010c-a_XZ00Y_-X0.-0090.b\nok\n>
 
 abbrev pub drawn_10 : Config
 drawn_10 = record {
-  machine = record { frames = 8; swap = 14; overhead = 0; tax = 5692; percent = record { high = 5200; soft = 1200; hard = 1200; low = 900 }; page_rate = 16 };
+  machine = record { frames = 8; swap = 14; overhead = 0; tax = 5692; percent = record { high = 5200; soft = 1200; hard = 1200; low = 900 }; page_rate = 16; rebalance = 0; page = 4 };
   epochs = 2;
   domains = (
-      record { name = codes ".."; config = record { size = 2; min = 1; shares = 100; samples = 100; period = 3; rate = 4; quantum = 2; seed = 9719760190679721796; stream = 54; tell = true; trace = (Write 1 0 (127 ∷ []) ∷ Idle ∷ []) } } ∷
-      record { name = codes "g1"; config = record { size = 8; min = 1; shares = 2; samples = 30; period = 10; rate = 16; quantum = 2; seed = 59237; stream = 9223372036854775808; tell = true; trace = ([]) } } ∷
-      record { name = codes "1YbZbab_Yc10X119X9-cbZ.Yb99Z-ba."; config = record { size = 8; min = 1; shares = 1000; samples = 4; period = 2; rate = 16; quantum = 2; seed = 0; stream = 0; tell = true; trace = (Read 4 0 1 ∷ Free 2 ∷ []) } } ∷ []);
+      record { name = codes ".."; config = record { size = 2; min = 1; shares = 100; samples = 100; period = 3; rate = 4; quantum = 2; seed = 9719760190679721796; stream = 54; tell = true; own_driver = true; page = 4; trace = (Write 1 0 (127 ∷ []) ∷ Idle ∷ []) } } ∷
+      record { name = codes "g1"; config = record { size = 8; min = 1; shares = 2; samples = 30; period = 10; rate = 16; quantum = 2; seed = 59237; stream = 9223372036854775808; tell = true; own_driver = true; page = 4; trace = ([]) } } ∷
+      record { name = codes "1YbZbab_Yc10X119X9-cbZ.Yb99Z-ba."; config = record { size = 8; min = 1; shares = 1000; samples = 4; period = 2; rate = 16; quantum = 2; seed = 0; stream = 0; tell = true; own_driver = true; page = 4; trace = (Read 4 0 1 ∷ Free 2 ∷ []) } } ∷ []);
   autostart = (true ∷ true ∷ true ∷ []);
   commands = (
       record { at = 1; line = codes "memtune g1 --min-guarantee 12Kb" } ∷
@@ -232,11 +232,11 @@ drawn_10_report = codes "epoch 0\n> start ..\nok\n> start g1\nok\n> start 1YbZba
 
 abbrev pub drawn_11 : Config
 drawn_11 = record {
-  machine = record { frames = 9; swap = 13; overhead = 0; tax = 9887; percent = record { high = 1663; soft = 637; hard = 139; low = 46 }; page_rate = 256 };
+  machine = record { frames = 9; swap = 13; overhead = 0; tax = 9887; percent = record { high = 1663; soft = 637; hard = 139; low = 46 }; page_rate = 256; rebalance = 0; page = 4 };
   epochs = 2;
   domains = (
-      record { name = codes "web"; config = record { size = 9; min = 1; shares = 1000; samples = 1; period = 10; rate = 23; quantum = 1; seed = 0; stream = 18446744073709551615; tell = false; trace = (Read 3 8 2 ∷ Read 3 1 2 ∷ Post Inflate (3 ∷ 0 ∷ 0 ∷ 0 ∷ []) ∷ Free 3 ∷ []) } } ∷
-      record { name = codes "0"; config = record { size = 9; min = 4; shares = 1000; samples = 30; period = 1; rate = 2; quantum = 1; seed = 0; stream = 3369444327212974100; tell = false; trace = ([]) } } ∷ []);
+      record { name = codes "web"; config = record { size = 9; min = 1; shares = 1000; samples = 1; period = 10; rate = 23; quantum = 1; seed = 0; stream = 18446744073709551615; tell = false; own_driver = true; page = 4; trace = (Read 3 8 2 ∷ Read 3 1 2 ∷ Post Inflate (3 ∷ 0 ∷ 0 ∷ 0 ∷ []) ∷ Free 3 ∷ []) } } ∷
+      record { name = codes "0"; config = record { size = 9; min = 4; shares = 1000; samples = 30; period = 1; rate = 2; quantum = 1; seed = 0; stream = 3369444327212974100; tell = false; own_driver = true; page = 4; trace = ([]) } } ∷ []);
   autostart = (true ∷ true ∷ []);
   commands = (
       record { at = 0; line = codes "setmem web 34KiB" } ∷
@@ -250,12 +250,12 @@ drawn_11_report = codes "epoch 0\n> start web\nok\n> start 0\nok\n> setmem web 3
 
 abbrev pub drawn_12 : Config
 drawn_12 = record {
-  machine = record { frames = 4; swap = 4194304; overhead = 0; tax = 7500; percent = record { high = 3100; soft = 3100; hard = 1200; low = 1000 }; page_rate = 3 };
+  machine = record { frames = 4; swap = 4194304; overhead = 0; tax = 7500; percent = record { high = 3100; soft = 3100; hard = 1200; low = 1000 }; page_rate = 3; rebalance = 0; page = 4 };
   epochs = 2;
   domains = (
-      record { name = codes "A"; config = record { size = 8; min = 2; shares = 1000; samples = 100; period = 1; rate = 16; quantum = 3; seed = 18446744073709551615; stream = 54; tell = true; trace = (Write 7 0 (106 ∷ []) ∷ Read 7 250 3 ∷ Write 7 0 (133 ∷ []) ∷ Read 7 1 6 ∷ Read 7 0 1 ∷ Free 7 ∷ Write 7 0 (49 ∷ 70 ∷ []) ∷ Write 7 4093 (226 ∷ 187 ∷ 180 ∷ []) ∷ Write 7 8 (56 ∷ 162 ∷ 205 ∷ 60 ∷ 167 ∷ 88 ∷ 5 ∷ 130 ∷ 23 ∷ 5 ∷ 202 ∷ 61 ∷ 16 ∷ 21 ∷ 83 ∷ 190 ∷ []) ∷ Free 1 ∷ []) } } ∷
-      record { name = codes "B"; config = record { size = 2; min = 1; shares = 1000; samples = 100; period = 10; rate = 4; quantum = 3; seed = 637899200221842925; stream = 17942675865314287213; tell = true; trace = ([]) } } ∷
-      record { name = codes "_"; config = record { size = 4; min = 1; shares = 345380; samples = 1; period = 5; rate = 2; quantum = 3; seed = 18446744073709551615; stream = 54; tell = false; trace = (Idle ∷ Free 3 ∷ Write 3 0 (234 ∷ 71 ∷ 223 ∷ 50 ∷ 144 ∷ 83 ∷ 39 ∷ 61 ∷ 122 ∷ 69 ∷ 121 ∷ 49 ∷ []) ∷ Read 2 0 3 ∷ Read 2 8 5 ∷ Read 2 0 7 ∷ Read 2 0 15 ∷ Read 2 0 3 ∷ Read 2 250 14 ∷ Read 2 4094 2 ∷ []) } } ∷ []);
+      record { name = codes "A"; config = record { size = 8; min = 2; shares = 1000; samples = 100; period = 1; rate = 16; quantum = 3; seed = 18446744073709551615; stream = 54; tell = true; own_driver = true; page = 4; trace = (Write 7 0 (106 ∷ []) ∷ Read 7 250 3 ∷ Write 7 0 (133 ∷ []) ∷ Read 7 1 6 ∷ Read 7 0 1 ∷ Free 7 ∷ Write 7 0 (49 ∷ 70 ∷ []) ∷ Write 7 4093 (226 ∷ 187 ∷ 180 ∷ []) ∷ Write 7 8 (56 ∷ 162 ∷ 205 ∷ 60 ∷ 167 ∷ 88 ∷ 5 ∷ 130 ∷ 23 ∷ 5 ∷ 202 ∷ 61 ∷ 16 ∷ 21 ∷ 83 ∷ 190 ∷ []) ∷ Free 1 ∷ []) } } ∷
+      record { name = codes "B"; config = record { size = 2; min = 1; shares = 1000; samples = 100; period = 10; rate = 4; quantum = 3; seed = 637899200221842925; stream = 17942675865314287213; tell = true; own_driver = true; page = 4; trace = ([]) } } ∷
+      record { name = codes "_"; config = record { size = 4; min = 1; shares = 345380; samples = 1; period = 5; rate = 2; quantum = 3; seed = 18446744073709551615; stream = 54; tell = false; own_driver = true; page = 4; trace = (Idle ∷ Free 3 ∷ Write 3 0 (234 ∷ 71 ∷ 223 ∷ 50 ∷ 144 ∷ 83 ∷ 39 ∷ 61 ∷ 122 ∷ 69 ∷ 121 ∷ 49 ∷ []) ∷ Read 2 0 3 ∷ Read 2 8 5 ∷ Read 2 0 7 ∷ Read 2 0 15 ∷ Read 2 0 3 ∷ Read 2 250 14 ∷ Read 2 4094 2 ∷ []) } } ∷ []);
   autostart = (false ∷ true ∷ true ∷ []);
   commands = (
       record { at = 0; line = codes "destroy A" } ∷
@@ -272,12 +272,12 @@ drawn_12_report = codes "epoch 0\n> start B\nok\n> start _\nok\n> destroy A\nerr
 
 abbrev pub drawn_13 : Config
 drawn_13 = record {
-  machine = record { frames = 11; swap = 36; overhead = 0; tax = 0; percent = record { high = 3500; soft = 1200; hard = 800; low = 100 }; page_rate = 1 };
+  machine = record { frames = 11; swap = 36; overhead = 0; tax = 0; percent = record { high = 3500; soft = 1200; hard = 800; low = 100 }; page_rate = 1; rebalance = 0; page = 4 };
   epochs = 2;
   domains = (
-      record { name = codes "g0"; config = record { size = 11; min = 2; shares = 1; samples = 100; period = 3; rate = 2; quantum = 1; seed = 0; stream = 0; tell = true; trace = (Free 0 ∷ []) } } ∷
-      record { name = codes "g1"; config = record { size = 11; min = 4; shares = 1000; samples = 100; period = 7; rate = 3; quantum = 1; seed = 0; stream = 6095915075609685954; tell = true; trace = ([]) } } ∷
-      record { name = codes "g2"; config = record { size = 14; min = 1; shares = 1000; samples = 10; period = 1000; rate = 3; quantum = 1; seed = 0; stream = 9223372036854775808; tell = true; trace = (Write 13 1 (153 ∷ 124 ∷ 75 ∷ 226 ∷ 212 ∷ 186 ∷ 80 ∷ 7 ∷ 5 ∷ 211 ∷ []) ∷ Read 13 4082 14 ∷ Write 13 0 (57 ∷ 105 ∷ 249 ∷ 117 ∷ 76 ∷ 34 ∷ 61 ∷ 15 ∷ 236 ∷ 25 ∷ 54 ∷ 23 ∷ 62 ∷ 58 ∷ 249 ∷ []) ∷ Write 13 0 (187 ∷ []) ∷ Post Deflate (6 ∷ 0 ∷ 0 ∷ 0 ∷ []) ∷ Read 13 0 2 ∷ Post Deflate (7 ∷ 0 ∷ 0 ∷ 0 ∷ 160 ∷ 165 ∷ 196 ∷ 241 ∷ 7 ∷ 0 ∷ 0 ∷ 0 ∷ 3 ∷ 0 ∷ 0 ∷ 0 ∷ 13 ∷ 0 ∷ 0 ∷ 0 ∷ []) ∷ Write 0 1 (2 ∷ 115 ∷ 239 ∷ 46 ∷ 227 ∷ 177 ∷ 174 ∷ 38 ∷ 85 ∷ 244 ∷ 122 ∷ 185 ∷ 252 ∷ 228 ∷ 194 ∷ []) ∷ Read 0 0 6 ∷ Post Stats (1 ∷ 0 ∷ 169 ∷ 89 ∷ 9 ∷ 0 ∷ 0 ∷ 0 ∷ 0 ∷ 0 ∷ 4 ∷ 0 ∷ 34 ∷ 12 ∷ 199 ∷ 145 ∷ 231 ∷ 253 ∷ 7 ∷ 168 ∷ 3 ∷ 1 ∷ 0 ∷ 0 ∷ 0 ∷ 0 ∷ 0 ∷ 0 ∷ 0 ∷ 0 ∷ 5 ∷ 0 ∷ 255 ∷ 255 ∷ 255 ∷ 255 ∷ 255 ∷ 255 ∷ 255 ∷ 255 ∷ 4 ∷ 0 ∷ 65 ∷ 225 ∷ 17 ∷ 254 ∷ 2 ∷ 12 ∷ 25 ∷ 30 ∷ 50 ∷ 12 ∷ 143 ∷ 4 ∷ 187 ∷ 243 ∷ []) ∷ []) } } ∷ []);
+      record { name = codes "g0"; config = record { size = 11; min = 2; shares = 1; samples = 100; period = 3; rate = 2; quantum = 1; seed = 0; stream = 0; tell = true; own_driver = true; page = 4; trace = (Free 0 ∷ []) } } ∷
+      record { name = codes "g1"; config = record { size = 11; min = 4; shares = 1000; samples = 100; period = 7; rate = 3; quantum = 1; seed = 0; stream = 6095915075609685954; tell = true; own_driver = true; page = 4; trace = ([]) } } ∷
+      record { name = codes "g2"; config = record { size = 14; min = 1; shares = 1000; samples = 10; period = 1000; rate = 3; quantum = 1; seed = 0; stream = 9223372036854775808; tell = true; own_driver = true; page = 4; trace = (Write 13 1 (153 ∷ 124 ∷ 75 ∷ 226 ∷ 212 ∷ 186 ∷ 80 ∷ 7 ∷ 5 ∷ 211 ∷ []) ∷ Read 13 4082 14 ∷ Write 13 0 (57 ∷ 105 ∷ 249 ∷ 117 ∷ 76 ∷ 34 ∷ 61 ∷ 15 ∷ 236 ∷ 25 ∷ 54 ∷ 23 ∷ 62 ∷ 58 ∷ 249 ∷ []) ∷ Write 13 0 (187 ∷ []) ∷ Post Deflate (6 ∷ 0 ∷ 0 ∷ 0 ∷ []) ∷ Read 13 0 2 ∷ Post Deflate (7 ∷ 0 ∷ 0 ∷ 0 ∷ 160 ∷ 165 ∷ 196 ∷ 241 ∷ 7 ∷ 0 ∷ 0 ∷ 0 ∷ 3 ∷ 0 ∷ 0 ∷ 0 ∷ 13 ∷ 0 ∷ 0 ∷ 0 ∷ []) ∷ Write 0 1 (2 ∷ 115 ∷ 239 ∷ 46 ∷ 227 ∷ 177 ∷ 174 ∷ 38 ∷ 85 ∷ 244 ∷ 122 ∷ 185 ∷ 252 ∷ 228 ∷ 194 ∷ []) ∷ Read 0 0 6 ∷ Post Stats (1 ∷ 0 ∷ 169 ∷ 89 ∷ 9 ∷ 0 ∷ 0 ∷ 0 ∷ 0 ∷ 0 ∷ 4 ∷ 0 ∷ 34 ∷ 12 ∷ 199 ∷ 145 ∷ 231 ∷ 253 ∷ 7 ∷ 168 ∷ 3 ∷ 1 ∷ 0 ∷ 0 ∷ 0 ∷ 0 ∷ 0 ∷ 0 ∷ 0 ∷ 0 ∷ 5 ∷ 0 ∷ 255 ∷ 255 ∷ 255 ∷ 255 ∷ 255 ∷ 255 ∷ 255 ∷ 255 ∷ 4 ∷ 0 ∷ 65 ∷ 225 ∷ 17 ∷ 254 ∷ 2 ∷ 12 ∷ 25 ∷ 30 ∷ 50 ∷ 12 ∷ 143 ∷ 4 ∷ 187 ∷ 243 ∷ []) ∷ []) } } ∷ []);
   autostart = (false ∷ false ∷ true ∷ []);
   commands = (
       record { at = 1; line = codes "setmem g2 3k" } ∷
@@ -294,12 +294,12 @@ drawn_13_report = codes "epoch 0\n> start g2\nok\n> destroy g0\nerror 3 not runn
 
 abbrev pub drawn_14 : Config
 drawn_14 = record {
-  machine = record { frames = 24; swap = 59; overhead = 0; tax = 4000; percent = record { high = 4600; soft = 2400; hard = 1600; low = 1400 }; page_rate = 2 };
+  machine = record { frames = 24; swap = 59; overhead = 0; tax = 4000; percent = record { high = 4600; soft = 2400; hard = 1600; low = 1400 }; page_rate = 2; rebalance = 0; page = 4 };
   epochs = 4;
   domains = (
-      record { name = codes "g0"; config = record { size = 26; min = 3; shares = 100; samples = 2; period = 2; rate = 4; quantum = 2; seed = 28; stream = 0; tell = true; trace = (Write 0 0 (0 ∷ []) ∷ Write 1 0 (1 ∷ []) ∷ Write 2 0 (2 ∷ []) ∷ Write 3 0 (3 ∷ []) ∷ Write 4 0 (4 ∷ []) ∷ Write 5 0 (5 ∷ []) ∷ []) } } ∷
-      record { name = codes "g1"; config = record { size = 19; min = 2; shares = 1000; samples = 6; period = 1; rate = 4; quantum = 2; seed = 15; stream = 0; tell = true; trace = (Write 0 0 (0 ∷ []) ∷ Write 1 0 (1 ∷ []) ∷ []) } } ∷
-      record { name = codes "x"; config = record { size = 14; min = 6; shares = 1000; samples = 2; period = 1; rate = 2; quantum = 2; seed = 62; stream = 0; tell = true; trace = ([]) } } ∷ []);
+      record { name = codes "g0"; config = record { size = 26; min = 3; shares = 100; samples = 2; period = 2; rate = 4; quantum = 2; seed = 28; stream = 0; tell = true; own_driver = true; page = 4; trace = (Write 0 0 (0 ∷ []) ∷ Write 1 0 (1 ∷ []) ∷ Write 2 0 (2 ∷ []) ∷ Write 3 0 (3 ∷ []) ∷ Write 4 0 (4 ∷ []) ∷ Write 5 0 (5 ∷ []) ∷ []) } } ∷
+      record { name = codes "g1"; config = record { size = 19; min = 2; shares = 1000; samples = 6; period = 1; rate = 4; quantum = 2; seed = 15; stream = 0; tell = true; own_driver = true; page = 4; trace = (Write 0 0 (0 ∷ []) ∷ Write 1 0 (1 ∷ []) ∷ []) } } ∷
+      record { name = codes "x"; config = record { size = 14; min = 6; shares = 1000; samples = 2; period = 1; rate = 2; quantum = 2; seed = 62; stream = 0; tell = true; own_driver = true; page = 4; trace = ([]) } } ∷ []);
   autostart = (true ∷ true ∷ false ∷ []);
   commands = (
       record { at = 1; line = codes "start x" } ∷
@@ -313,10 +313,10 @@ drawn_14_report = codes "epoch 0\n> start g0\nok\n> start g1\nok\nstate high fre
 
 abbrev pub drawn_15 : Config
 drawn_15 = record {
-  machine = record { frames = 2; swap = 4194304; overhead = 0; tax = 8588; percent = record { high = 818; soft = 562; hard = 503; low = 362 }; page_rate = 16 };
+  machine = record { frames = 2; swap = 4194304; overhead = 0; tax = 8588; percent = record { high = 818; soft = 562; hard = 503; low = 362 }; page_rate = 16; rebalance = 0; page = 4 };
   epochs = 3;
   domains = (
-      record { name = codes "machine"; config = record { size = 3; min = 2; shares = 1000; samples = 15; period = 1000; rate = 1; quantum = 5; seed = 42; stream = 54; tell = true; trace = (Read 0 1 3 ∷ Free 0 ∷ Read 0 0 1 ∷ Write 0 250 (83 ∷ []) ∷ Write 1 4090 (158 ∷ 230 ∷ 185 ∷ 98 ∷ 171 ∷ 110 ∷ []) ∷ Post Stats (0 ∷ 0 ∷ 0 ∷ 4 ∷ 0 ∷ 0 ∷ 0 ∷ 0 ∷ 0 ∷ 0 ∷ 3 ∷ 0 ∷ 0 ∷ 16 ∷ 0 ∷ 0 ∷ 0 ∷ 0 ∷ 0 ∷ 0 ∷ 1 ∷ 0 ∷ 135 ∷ 177 ∷ 7 ∷ 0 ∷ 0 ∷ 0 ∷ 0 ∷ 0 ∷ 255 ∷ 255 ∷ 255 ∷ 3 ∷ 0 ∷ 0 ∷ 0 ∷ 0 ∷ 0 ∷ 0 ∷ 4 ∷ 0 ∷ 0 ∷ 4 ∷ 0 ∷ 0 ∷ 0 ∷ 0 ∷ 0 ∷ 0 ∷ []) ∷ Read 0 0 13 ∷ []) } } ∷ []);
+      record { name = codes "machine"; config = record { size = 3; min = 2; shares = 1000; samples = 15; period = 1000; rate = 1; quantum = 5; seed = 42; stream = 54; tell = true; own_driver = true; page = 4; trace = (Read 0 1 3 ∷ Free 0 ∷ Read 0 0 1 ∷ Write 0 250 (83 ∷ []) ∷ Write 1 4090 (158 ∷ 230 ∷ 185 ∷ 98 ∷ 171 ∷ 110 ∷ []) ∷ Post Stats (0 ∷ 0 ∷ 0 ∷ 4 ∷ 0 ∷ 0 ∷ 0 ∷ 0 ∷ 0 ∷ 0 ∷ 3 ∷ 0 ∷ 0 ∷ 16 ∷ 0 ∷ 0 ∷ 0 ∷ 0 ∷ 0 ∷ 0 ∷ 1 ∷ 0 ∷ 135 ∷ 177 ∷ 7 ∷ 0 ∷ 0 ∷ 0 ∷ 0 ∷ 0 ∷ 255 ∷ 255 ∷ 255 ∷ 3 ∷ 0 ∷ 0 ∷ 0 ∷ 0 ∷ 0 ∷ 0 ∷ 4 ∷ 0 ∷ 0 ∷ 4 ∷ 0 ∷ 0 ∷ 0 ∷ 0 ∷ 0 ∷ 0 ∷ []) ∷ Read 0 0 13 ∷ []) } } ∷ []);
   autostart = (true ∷ []);
   commands = (
       record { at = 0; line = codes "setmem machine 7Kb" } ∷
@@ -331,11 +331,11 @@ drawn_15_report = codes "epoch 0\n> start machine\nok\n> setmem machine 7Kb\nok\
 
 abbrev pub drawn_16 : Config
 drawn_16 = record {
-  machine = record { frames = 5; swap = 26; overhead = 1; tax = 0; percent = record { high = 3821; soft = 1996; hard = 263; low = 159 }; page_rate = 2 };
+  machine = record { frames = 5; swap = 26; overhead = 1; tax = 0; percent = record { high = 3821; soft = 1996; hard = 263; low = 159 }; page_rate = 2; rebalance = 0; page = 4 };
   epochs = 2;
   domains = (
-      record { name = codes "g0"; config = record { size = 7; min = 1; shares = 1000; samples = 100; period = 37; rate = 1; quantum = 1; seed = 0; stream = 9223372036854775808; tell = false; trace = (Idle ∷ Free 2 ∷ Write 2 250 (223 ∷ 198 ∷ 26 ∷ 146 ∷ 27 ∷ 99 ∷ 154 ∷ 82 ∷ 11 ∷ 161 ∷ 233 ∷ 19 ∷ 23 ∷ []) ∷ Post Inflate (21 ∷ 55 ∷ 84 ∷ []) ∷ []) } } ∷
-      record { name = codes "g1"; config = record { size = 7; min = 1; shares = 2; samples = 10; period = 20; rate = 1; quantum = 1; seed = 0; stream = 18446744073709551615; tell = false; trace = (Read 5 1378 7 ∷ Read 5 250 2 ∷ Read 5 250 8 ∷ Write 5 250 (38 ∷ 5 ∷ 224 ∷ 189 ∷ 74 ∷ 93 ∷ 177 ∷ 188 ∷ 4 ∷ 52 ∷ 89 ∷ 0 ∷ 83 ∷ 216 ∷ 203 ∷ 31 ∷ []) ∷ Read 5 4094 2 ∷ Write 6 8 (37 ∷ 11 ∷ 74 ∷ 248 ∷ 50 ∷ 222 ∷ 228 ∷ 48 ∷ 56 ∷ 229 ∷ 34 ∷ 67 ∷ 52 ∷ []) ∷ Idle ∷ Read 6 0 3 ∷ Free 2 ∷ Free 3 ∷ []) } } ∷ []);
+      record { name = codes "g0"; config = record { size = 7; min = 1; shares = 1000; samples = 100; period = 37; rate = 1; quantum = 1; seed = 0; stream = 9223372036854775808; tell = false; own_driver = true; page = 4; trace = (Idle ∷ Free 2 ∷ Write 2 250 (223 ∷ 198 ∷ 26 ∷ 146 ∷ 27 ∷ 99 ∷ 154 ∷ 82 ∷ 11 ∷ 161 ∷ 233 ∷ 19 ∷ 23 ∷ []) ∷ Post Inflate (21 ∷ 55 ∷ 84 ∷ []) ∷ []) } } ∷
+      record { name = codes "g1"; config = record { size = 7; min = 1; shares = 2; samples = 10; period = 20; rate = 1; quantum = 1; seed = 0; stream = 18446744073709551615; tell = false; own_driver = true; page = 4; trace = (Read 5 1378 7 ∷ Read 5 250 2 ∷ Read 5 250 8 ∷ Write 5 250 (38 ∷ 5 ∷ 224 ∷ 189 ∷ 74 ∷ 93 ∷ 177 ∷ 188 ∷ 4 ∷ 52 ∷ 89 ∷ 0 ∷ 83 ∷ 216 ∷ 203 ∷ 31 ∷ []) ∷ Read 5 4094 2 ∷ Write 6 8 (37 ∷ 11 ∷ 74 ∷ 248 ∷ 50 ∷ 222 ∷ 228 ∷ 48 ∷ 56 ∷ 229 ∷ 34 ∷ 67 ∷ 52 ∷ []) ∷ Idle ∷ Read 6 0 3 ∷ Free 2 ∷ Free 3 ∷ []) } } ∷ []);
   autostart = (false ∷ true ∷ []);
   commands = (
       record { at = 2; line = codes "memtune g0 --min-guarantee 0000012" } ∷
@@ -350,12 +350,12 @@ drawn_16_report = codes "epoch 0\n> start g1\nok\n> memtune --min-guarantee=0000
 
 abbrev pub drawn_17 : Config
 drawn_17 = record {
-  machine = record { frames = 23; swap = 49; overhead = 0; tax = 8082; percent = record { high = 4300; soft = 2400; hard = 1500; low = 500 }; page_rate = 1 };
+  machine = record { frames = 23; swap = 49; overhead = 0; tax = 8082; percent = record { high = 4300; soft = 2400; hard = 1500; low = 500 }; page_rate = 1; rebalance = 0; page = 4 };
   epochs = 4;
   domains = (
-      record { name = codes "g0"; config = record { size = 14; min = 2; shares = 100; samples = 4; period = 4; rate = 4; quantum = 2; seed = 12; stream = 0; tell = true; trace = (Write 0 0 (0 ∷ []) ∷ Write 1 0 (1 ∷ []) ∷ Write 2 0 (2 ∷ []) ∷ Write 3 0 (3 ∷ []) ∷ []) } } ∷
-      record { name = codes "g1"; config = record { size = 15; min = 1; shares = 200; samples = 2; period = 1; rate = 4; quantum = 2; seed = 97; stream = 0; tell = false; trace = (Write 0 0 (0 ∷ []) ∷ Write 1 0 (1 ∷ []) ∷ Write 2 0 (2 ∷ []) ∷ Write 3 0 (3 ∷ []) ∷ []) } } ∷
-      record { name = codes "x"; config = record { size = 20; min = 7; shares = 200; samples = 6; period = 4; rate = 2; quantum = 2; seed = 64; stream = 0; tell = true; trace = ([]) } } ∷ []);
+      record { name = codes "g0"; config = record { size = 14; min = 2; shares = 100; samples = 4; period = 4; rate = 4; quantum = 2; seed = 12; stream = 0; tell = true; own_driver = true; page = 4; trace = (Write 0 0 (0 ∷ []) ∷ Write 1 0 (1 ∷ []) ∷ Write 2 0 (2 ∷ []) ∷ Write 3 0 (3 ∷ []) ∷ []) } } ∷
+      record { name = codes "g1"; config = record { size = 15; min = 1; shares = 200; samples = 2; period = 1; rate = 4; quantum = 2; seed = 97; stream = 0; tell = false; own_driver = true; page = 4; trace = (Write 0 0 (0 ∷ []) ∷ Write 1 0 (1 ∷ []) ∷ Write 2 0 (2 ∷ []) ∷ Write 3 0 (3 ∷ []) ∷ []) } } ∷
+      record { name = codes "x"; config = record { size = 20; min = 7; shares = 200; samples = 6; period = 4; rate = 2; quantum = 2; seed = 64; stream = 0; tell = true; own_driver = true; page = 4; trace = ([]) } } ∷ []);
   autostart = (true ∷ true ∷ false ∷ []);
   commands = (
       record { at = 1; line = codes "start x" } ∷
@@ -370,10 +370,10 @@ drawn_17_report = codes "epoch 0\n> start g0\nok\n> start g1\nok\nstate high fre
 
 abbrev pub drawn_18 : Config
 drawn_18 = record {
-  machine = record { frames = 4; swap = 4; overhead = 2; tax = 8857; percent = record { high = 812; soft = 737; hard = 341; low = 159 }; page_rate = 31 };
+  machine = record { frames = 4; swap = 4; overhead = 2; tax = 8857; percent = record { high = 812; soft = 737; hard = 341; low = 159 }; page_rate = 31; rebalance = 0; page = 4 };
   epochs = 2;
   domains = (
-      record { name = codes "g0"; config = record { size = 4; min = 4; shares = 1000; samples = 100; period = 1000000; rate = 11; quantum = 2; seed = 1; stream = 0; tell = false; trace = (Free 3 ∷ Free 1 ∷ Write 2 250 (232 ∷ 17 ∷ 74 ∷ 10 ∷ 116 ∷ 184 ∷ 190 ∷ 33 ∷ 6 ∷ []) ∷ Free 3 ∷ Write 1 1 (48 ∷ 105 ∷ 49 ∷ 102 ∷ 131 ∷ 62 ∷ 84 ∷ 174 ∷ 180 ∷ 49 ∷ 7 ∷ 245 ∷ 243 ∷ 120 ∷ 186 ∷ 177 ∷ []) ∷ Write 3 3014 (206 ∷ 78 ∷ 130 ∷ 14 ∷ 157 ∷ 59 ∷ 47 ∷ 48 ∷ 164 ∷ 5 ∷ 184 ∷ 213 ∷ []) ∷ Write 2 651 (114 ∷ 131 ∷ 222 ∷ 166 ∷ 9 ∷ 37 ∷ 205 ∷ 101 ∷ []) ∷ Read 0 250 7 ∷ Read 2 8 3 ∷ Read 3 0 1 ∷ []) } } ∷ []);
+      record { name = codes "g0"; config = record { size = 4; min = 4; shares = 1000; samples = 100; period = 1000000; rate = 11; quantum = 2; seed = 1; stream = 0; tell = false; own_driver = true; page = 4; trace = (Free 3 ∷ Free 1 ∷ Write 2 250 (232 ∷ 17 ∷ 74 ∷ 10 ∷ 116 ∷ 184 ∷ 190 ∷ 33 ∷ 6 ∷ []) ∷ Free 3 ∷ Write 1 1 (48 ∷ 105 ∷ 49 ∷ 102 ∷ 131 ∷ 62 ∷ 84 ∷ 174 ∷ 180 ∷ 49 ∷ 7 ∷ 245 ∷ 243 ∷ 120 ∷ 186 ∷ 177 ∷ []) ∷ Write 3 3014 (206 ∷ 78 ∷ 130 ∷ 14 ∷ 157 ∷ 59 ∷ 47 ∷ 48 ∷ 164 ∷ 5 ∷ 184 ∷ 213 ∷ []) ∷ Write 2 651 (114 ∷ 131 ∷ 222 ∷ 166 ∷ 9 ∷ 37 ∷ 205 ∷ 101 ∷ []) ∷ Read 0 250 7 ∷ Read 2 8 3 ∷ Read 3 0 1 ∷ []) } } ∷ []);
   autostart = (true ∷ []);
   commands = (
       record { at = 5; line = codes "memtune --min-guarantee 8604byteS g0" } ∷ []);
@@ -384,12 +384,12 @@ drawn_18_report = codes "epoch 0\n> start g0\nerror 8 no memory to reserve\nstat
 
 abbrev pub drawn_19 : Config
 drawn_19 = record {
-  machine = record { frames = 5; swap = 4194304; overhead = 0; tax = 7500; percent = record { high = 4678; soft = 3666; hard = 2120; low = 1610 }; page_rate = 2 };
+  machine = record { frames = 5; swap = 4194304; overhead = 0; tax = 7500; percent = record { high = 4678; soft = 3666; hard = 2120; low = 1610 }; page_rate = 2; rebalance = 0; page = 4 };
   epochs = 3;
   domains = (
-      record { name = codes "g0"; config = record { size = 8; min = 1; shares = 1000; samples = 1; period = 50; rate = 16; quantum = 2; seed = 52359; stream = 0; tell = false; trace = (Free 5 ∷ Read 7 471 2 ∷ Write 7 4094 (212 ∷ 68 ∷ []) ∷ Read 7 3921 2 ∷ Read 7 787 3 ∷ Write 7 250 (77 ∷ 128 ∷ []) ∷ Write 7 0 (161 ∷ 140 ∷ 93 ∷ 181 ∷ 253 ∷ 36 ∷ 144 ∷ 146 ∷ 200 ∷ 118 ∷ 161 ∷ []) ∷ Free 0 ∷ Write 5 4095 (202 ∷ []) ∷ Write 3 0 (232 ∷ []) ∷ []) } } ∷
-      record { name = codes "state"; config = record { size = 10; min = 1; shares = 1000; samples = 100; period = 1000; rate = 16; quantum = 2; seed = 1; stream = 3762127639552082560; tell = false; trace = (Idle ∷ Write 0 250 (158 ∷ []) ∷ Read 0 8 3 ∷ Free 0 ∷ Read 0 1 1 ∷ Write 0 250 (192 ∷ 225 ∷ 38 ∷ []) ∷ Post Inflate (0 ∷ 0 ∷ 0 ∷ 0 ∷ 0 ∷ 0 ∷ 0 ∷ 0 ∷ 0 ∷ 0 ∷ 0 ∷ 0 ∷ 0 ∷ 0 ∷ 0 ∷ 0 ∷ 8 ∷ 0 ∷ 0 ∷ 0 ∷ []) ∷ Idle ∷ Idle ∷ Write 0 250 (68 ∷ []) ∷ []) } } ∷
-      record { name = codes "A"; config = record { size = 5; min = 1; shares = 1000; samples = 100; period = 2; rate = 1; quantum = 2; seed = 1; stream = 4483412113176155031; tell = false; trace = (Free 0 ∷ Free 0 ∷ Write 0 0 (177 ∷ 254 ∷ 140 ∷ 78 ∷ 221 ∷ 204 ∷ []) ∷ Write 0 0 (50 ∷ 179 ∷ []) ∷ Write 1 1 (180 ∷ 64 ∷ []) ∷ Read 1 0 4 ∷ Read 1 0 5 ∷ Read 1 8 2 ∷ Read 1 0 2 ∷ Read 1 1 8 ∷ []) } } ∷ []);
+      record { name = codes "g0"; config = record { size = 8; min = 1; shares = 1000; samples = 1; period = 50; rate = 16; quantum = 2; seed = 52359; stream = 0; tell = false; own_driver = true; page = 4; trace = (Free 5 ∷ Read 7 471 2 ∷ Write 7 4094 (212 ∷ 68 ∷ []) ∷ Read 7 3921 2 ∷ Read 7 787 3 ∷ Write 7 250 (77 ∷ 128 ∷ []) ∷ Write 7 0 (161 ∷ 140 ∷ 93 ∷ 181 ∷ 253 ∷ 36 ∷ 144 ∷ 146 ∷ 200 ∷ 118 ∷ 161 ∷ []) ∷ Free 0 ∷ Write 5 4095 (202 ∷ []) ∷ Write 3 0 (232 ∷ []) ∷ []) } } ∷
+      record { name = codes "state"; config = record { size = 10; min = 1; shares = 1000; samples = 100; period = 1000; rate = 16; quantum = 2; seed = 1; stream = 3762127639552082560; tell = false; own_driver = true; page = 4; trace = (Idle ∷ Write 0 250 (158 ∷ []) ∷ Read 0 8 3 ∷ Free 0 ∷ Read 0 1 1 ∷ Write 0 250 (192 ∷ 225 ∷ 38 ∷ []) ∷ Post Inflate (0 ∷ 0 ∷ 0 ∷ 0 ∷ 0 ∷ 0 ∷ 0 ∷ 0 ∷ 0 ∷ 0 ∷ 0 ∷ 0 ∷ 0 ∷ 0 ∷ 0 ∷ 0 ∷ 8 ∷ 0 ∷ 0 ∷ 0 ∷ []) ∷ Idle ∷ Idle ∷ Write 0 250 (68 ∷ []) ∷ []) } } ∷
+      record { name = codes "A"; config = record { size = 5; min = 1; shares = 1000; samples = 100; period = 2; rate = 1; quantum = 2; seed = 1; stream = 4483412113176155031; tell = false; own_driver = true; page = 4; trace = (Free 0 ∷ Free 0 ∷ Write 0 0 (177 ∷ 254 ∷ 140 ∷ 78 ∷ 221 ∷ 204 ∷ []) ∷ Write 0 0 (50 ∷ 179 ∷ []) ∷ Write 1 1 (180 ∷ 64 ∷ []) ∷ Read 1 0 4 ∷ Read 1 0 5 ∷ Read 1 8 2 ∷ Read 1 0 2 ∷ Read 1 1 8 ∷ []) } } ∷ []);
   autostart = (true ∷ true ∷ true ∷ []);
   commands = (
       record { at = 0; line = codes "setmem g0 0000000000004" } ∷
@@ -405,12 +405,12 @@ drawn_19_report = codes "epoch 0\n> start g0\nok\n> start state\nok\n> start A\n
 
 abbrev pub drawn_20 : Config
 drawn_20 = record {
-  machine = record { frames = 17; swap = 35; overhead = 0; tax = 6174; percent = record { high = 2600; soft = 1300; hard = 1200; low = 900 }; page_rate = 2 };
+  machine = record { frames = 17; swap = 35; overhead = 0; tax = 6174; percent = record { high = 2600; soft = 1300; hard = 1200; low = 900 }; page_rate = 2; rebalance = 0; page = 4 };
   epochs = 6;
   domains = (
-      record { name = codes "g0"; config = record { size = 13; min = 2; shares = 100; samples = 4; period = 1; rate = 2; quantum = 2; seed = 54; stream = 0; tell = true; trace = (Write 0 0 (0 ∷ []) ∷ Write 1 0 (1 ∷ []) ∷ Write 2 0 (2 ∷ []) ∷ Write 3 0 (3 ∷ []) ∷ Write 4 0 (4 ∷ []) ∷ Write 5 0 (5 ∷ []) ∷ []) } } ∷
-      record { name = codes "g1"; config = record { size = 14; min = 3; shares = 200; samples = 5; period = 1; rate = 4; quantum = 2; seed = 26; stream = 0; tell = false; trace = (Write 0 0 (0 ∷ []) ∷ Write 1 0 (1 ∷ []) ∷ Write 2 0 (2 ∷ []) ∷ Write 3 0 (3 ∷ []) ∷ Write 4 0 (4 ∷ []) ∷ Write 5 0 (5 ∷ []) ∷ []) } } ∷
-      record { name = codes "x"; config = record { size = 8; min = 1; shares = 1000; samples = 4; period = 2; rate = 2; quantum = 2; seed = 39; stream = 0; tell = false; trace = ([]) } } ∷ []);
+      record { name = codes "g0"; config = record { size = 13; min = 2; shares = 100; samples = 4; period = 1; rate = 2; quantum = 2; seed = 54; stream = 0; tell = true; own_driver = true; page = 4; trace = (Write 0 0 (0 ∷ []) ∷ Write 1 0 (1 ∷ []) ∷ Write 2 0 (2 ∷ []) ∷ Write 3 0 (3 ∷ []) ∷ Write 4 0 (4 ∷ []) ∷ Write 5 0 (5 ∷ []) ∷ []) } } ∷
+      record { name = codes "g1"; config = record { size = 14; min = 3; shares = 200; samples = 5; period = 1; rate = 4; quantum = 2; seed = 26; stream = 0; tell = false; own_driver = true; page = 4; trace = (Write 0 0 (0 ∷ []) ∷ Write 1 0 (1 ∷ []) ∷ Write 2 0 (2 ∷ []) ∷ Write 3 0 (3 ∷ []) ∷ Write 4 0 (4 ∷ []) ∷ Write 5 0 (5 ∷ []) ∷ []) } } ∷
+      record { name = codes "x"; config = record { size = 8; min = 1; shares = 1000; samples = 4; period = 2; rate = 2; quantum = 2; seed = 39; stream = 0; tell = false; own_driver = true; page = 4; trace = ([]) } } ∷ []);
   autostart = (true ∷ true ∷ false ∷ []);
   commands = (
       record { at = 1; line = codes "memtune g0 --min-guarantee 32" } ∷
@@ -430,12 +430,12 @@ drawn_20_report = codes "epoch 0\n> start g0\nok\n> start g1\nok\nstate high fre
 
 abbrev pub drawn_21 : Config
 drawn_21 = record {
-  machine = record { frames = 7; swap = 32; overhead = 0; tax = 7800; percent = record { high = 700; soft = 500; hard = 100; low = 0 }; page_rate = 1 };
+  machine = record { frames = 7; swap = 32; overhead = 0; tax = 7800; percent = record { high = 700; soft = 500; hard = 100; low = 0 }; page_rate = 1; rebalance = 0; page = 4 };
   epochs = 2;
   domains = (
-      record { name = codes "0"; config = record { size = 2; min = 2; shares = 1000; samples = 1; period = 20; rate = 16; quantum = 1; seed = 36254; stream = 54; tell = true; trace = (Write 1 8 (60 ∷ 69 ∷ []) ∷ Write 1 0 (2 ∷ 89 ∷ 44 ∷ []) ∷ Read 1 1 1 ∷ Write 1 0 (101 ∷ 3 ∷ 224 ∷ 84 ∷ 47 ∷ 227 ∷ 204 ∷ 179 ∷ 69 ∷ 5 ∷ 31 ∷ 63 ∷ 148 ∷ 207 ∷ []) ∷ Write 0 0 (182 ∷ []) ∷ Write 0 8 (83 ∷ 239 ∷ []) ∷ Write 0 4094 (189 ∷ 146 ∷ []) ∷ Write 1 0 (196 ∷ []) ∷ Free 0 ∷ Free 0 ∷ Read 0 0 1 ∷ Read 0 1 16 ∷ Write 0 0 (95 ∷ 184 ∷ []) ∷ Write 0 533 (207 ∷ 35 ∷ 116 ∷ 169 ∷ 83 ∷ 106 ∷ []) ∷ []) } } ∷
-      record { name = codes "g1"; config = record { size = 6; min = 1; shares = 617982; samples = 3; period = 5; rate = 16; quantum = 1; seed = 1; stream = 54; tell = true; trace = (Write 4 0 (203 ∷ 136 ∷ []) ∷ Write 4 0 (214 ∷ 64 ∷ []) ∷ Write 3 8 (238 ∷ []) ∷ Read 4 1 13 ∷ Write 1 0 (100 ∷ 104 ∷ 164 ∷ 226 ∷ 233 ∷ 243 ∷ 225 ∷ 197 ∷ 227 ∷ 230 ∷ []) ∷ Write 2 0 (125 ∷ 200 ∷ 172 ∷ 97 ∷ 139 ∷ 8 ∷ 50 ∷ 253 ∷ 174 ∷ 138 ∷ 44 ∷ 189 ∷ 112 ∷ 165 ∷ 58 ∷ []) ∷ Write 0 1 (200 ∷ 58 ∷ []) ∷ Read 4 1991 2 ∷ Read 2 4095 1 ∷ Write 4 0 (52 ∷ 137 ∷ 115 ∷ []) ∷ Write 3 0 (254 ∷ 208 ∷ 224 ∷ 252 ∷ 120 ∷ 223 ∷ 69 ∷ []) ∷ Read 4 1 3 ∷ Read 3 8 2 ∷ Read 4 8 13 ∷ Write 2 250 (41 ∷ 8 ∷ 47 ∷ []) ∷ Write 4 0 (181 ∷ 129 ∷ 236 ∷ 115 ∷ 210 ∷ 18 ∷ 94 ∷ 38 ∷ []) ∷ Write 4 1995 (80 ∷ 244 ∷ []) ∷ Write 4 1 (167 ∷ 224 ∷ 25 ∷ []) ∷ Read 3 1 2 ∷ []) } } ∷
-      record { name = codes "state"; config = record { size = 8; min = 1; shares = 100; samples = 1; period = 50; rate = 3; quantum = 1; seed = 18446744073709551615; stream = 18446744073709551615; tell = true; trace = (Read 1 0 13 ∷ Read 2 0 9 ∷ Free 0 ∷ Read 1 250 2 ∷ Write 2 959 (175 ∷ []) ∷ Free 0 ∷ Read 1 633 7 ∷ Write 5 4094 (135 ∷ 12 ∷ []) ∷ []) } } ∷ []);
+      record { name = codes "0"; config = record { size = 2; min = 2; shares = 1000; samples = 1; period = 20; rate = 16; quantum = 1; seed = 36254; stream = 54; tell = true; own_driver = true; page = 4; trace = (Write 1 8 (60 ∷ 69 ∷ []) ∷ Write 1 0 (2 ∷ 89 ∷ 44 ∷ []) ∷ Read 1 1 1 ∷ Write 1 0 (101 ∷ 3 ∷ 224 ∷ 84 ∷ 47 ∷ 227 ∷ 204 ∷ 179 ∷ 69 ∷ 5 ∷ 31 ∷ 63 ∷ 148 ∷ 207 ∷ []) ∷ Write 0 0 (182 ∷ []) ∷ Write 0 8 (83 ∷ 239 ∷ []) ∷ Write 0 4094 (189 ∷ 146 ∷ []) ∷ Write 1 0 (196 ∷ []) ∷ Free 0 ∷ Free 0 ∷ Read 0 0 1 ∷ Read 0 1 16 ∷ Write 0 0 (95 ∷ 184 ∷ []) ∷ Write 0 533 (207 ∷ 35 ∷ 116 ∷ 169 ∷ 83 ∷ 106 ∷ []) ∷ []) } } ∷
+      record { name = codes "g1"; config = record { size = 6; min = 1; shares = 617982; samples = 3; period = 5; rate = 16; quantum = 1; seed = 1; stream = 54; tell = true; own_driver = true; page = 4; trace = (Write 4 0 (203 ∷ 136 ∷ []) ∷ Write 4 0 (214 ∷ 64 ∷ []) ∷ Write 3 8 (238 ∷ []) ∷ Read 4 1 13 ∷ Write 1 0 (100 ∷ 104 ∷ 164 ∷ 226 ∷ 233 ∷ 243 ∷ 225 ∷ 197 ∷ 227 ∷ 230 ∷ []) ∷ Write 2 0 (125 ∷ 200 ∷ 172 ∷ 97 ∷ 139 ∷ 8 ∷ 50 ∷ 253 ∷ 174 ∷ 138 ∷ 44 ∷ 189 ∷ 112 ∷ 165 ∷ 58 ∷ []) ∷ Write 0 1 (200 ∷ 58 ∷ []) ∷ Read 4 1991 2 ∷ Read 2 4095 1 ∷ Write 4 0 (52 ∷ 137 ∷ 115 ∷ []) ∷ Write 3 0 (254 ∷ 208 ∷ 224 ∷ 252 ∷ 120 ∷ 223 ∷ 69 ∷ []) ∷ Read 4 1 3 ∷ Read 3 8 2 ∷ Read 4 8 13 ∷ Write 2 250 (41 ∷ 8 ∷ 47 ∷ []) ∷ Write 4 0 (181 ∷ 129 ∷ 236 ∷ 115 ∷ 210 ∷ 18 ∷ 94 ∷ 38 ∷ []) ∷ Write 4 1995 (80 ∷ 244 ∷ []) ∷ Write 4 1 (167 ∷ 224 ∷ 25 ∷ []) ∷ Read 3 1 2 ∷ []) } } ∷
+      record { name = codes "state"; config = record { size = 8; min = 1; shares = 100; samples = 1; period = 50; rate = 3; quantum = 1; seed = 18446744073709551615; stream = 18446744073709551615; tell = true; own_driver = true; page = 4; trace = (Read 1 0 13 ∷ Read 2 0 9 ∷ Free 0 ∷ Read 1 250 2 ∷ Write 2 959 (175 ∷ []) ∷ Free 0 ∷ Read 1 633 7 ∷ Write 5 4094 (135 ∷ 12 ∷ []) ∷ []) } } ∷ []);
   autostart = (false ∷ true ∷ true ∷ []);
   commands = (
       record { at = 0; line = codes "destroy 0" } ∷
@@ -450,12 +450,12 @@ drawn_21_report = codes "epoch 0\n> start g1\nok\n> start state\nok\n> destroy 0
 
 abbrev pub drawn_22 : Config
 drawn_22 = record {
-  machine = record { frames = 15; swap = 27; overhead = 1; tax = 9700; percent = record { high = 3100; soft = 2300; hard = 1300; low = 1300 }; page_rate = 1 };
+  machine = record { frames = 15; swap = 27; overhead = 1; tax = 9700; percent = record { high = 3100; soft = 2300; hard = 1300; low = 1300 }; page_rate = 1; rebalance = 0; page = 4 };
   epochs = 5;
   domains = (
-      record { name = codes "g0"; config = record { size = 17; min = 2; shares = 100; samples = 1; period = 2; rate = 2; quantum = 3; seed = 53; stream = 0; tell = true; trace = (Write 0 0 (0 ∷ []) ∷ Write 1 0 (1 ∷ []) ∷ Write 2 0 (2 ∷ []) ∷ Write 3 0 (3 ∷ []) ∷ Write 4 0 (4 ∷ []) ∷ Write 5 0 (5 ∷ []) ∷ []) } } ∷
-      record { name = codes "g1"; config = record { size = 7; min = 2; shares = 200; samples = 6; period = 3; rate = 1; quantum = 3; seed = 87; stream = 0; tell = true; trace = (Write 0 0 (0 ∷ []) ∷ Write 1 0 (1 ∷ []) ∷ Write 2 0 (2 ∷ []) ∷ []) } } ∷
-      record { name = codes "x"; config = record { size = 3; min = 3; shares = 1000; samples = 6; period = 1; rate = 1; quantum = 3; seed = 89; stream = 0; tell = true; trace = ([]) } } ∷ []);
+      record { name = codes "g0"; config = record { size = 17; min = 2; shares = 100; samples = 1; period = 2; rate = 2; quantum = 3; seed = 53; stream = 0; tell = true; own_driver = true; page = 4; trace = (Write 0 0 (0 ∷ []) ∷ Write 1 0 (1 ∷ []) ∷ Write 2 0 (2 ∷ []) ∷ Write 3 0 (3 ∷ []) ∷ Write 4 0 (4 ∷ []) ∷ Write 5 0 (5 ∷ []) ∷ []) } } ∷
+      record { name = codes "g1"; config = record { size = 7; min = 2; shares = 200; samples = 6; period = 3; rate = 1; quantum = 3; seed = 87; stream = 0; tell = true; own_driver = true; page = 4; trace = (Write 0 0 (0 ∷ []) ∷ Write 1 0 (1 ∷ []) ∷ Write 2 0 (2 ∷ []) ∷ []) } } ∷
+      record { name = codes "x"; config = record { size = 3; min = 3; shares = 1000; samples = 6; period = 1; rate = 1; quantum = 3; seed = 89; stream = 0; tell = true; own_driver = true; page = 4; trace = ([]) } } ∷ []);
   autostart = (true ∷ true ∷ false ∷ []);
   commands = (
       record { at = 1; line = codes "memtune g0 --min-guarantee 16" } ∷
@@ -472,12 +472,12 @@ drawn_22_report = codes "epoch 0\n> start g0\nok\n> start g1\nok\nstate high fre
 
 abbrev pub drawn_23 : Config
 drawn_23 = record {
-  machine = record { frames = 9; swap = 24; overhead = 1; tax = 9400; percent = record { high = 700; soft = 600; hard = 600; low = 200 }; page_rate = 1 };
+  machine = record { frames = 9; swap = 24; overhead = 1; tax = 9400; percent = record { high = 700; soft = 600; hard = 600; low = 200 }; page_rate = 1; rebalance = 0; page = 4 };
   epochs = 4;
   domains = (
-      record { name = codes "g0"; config = record { size = 6; min = 1; shares = 1000; samples = 25; period = 1; rate = 2; quantum = 3; seed = 0; stream = 0; tell = true; trace = ([]) } } ∷
-      record { name = codes "g1"; config = record { size = 9; min = 1; shares = 1000; samples = 10; period = 1000; rate = 2; quantum = 3; seed = 2724000318814824522; stream = 0; tell = true; trace = ([]) } } ∷
-      record { name = codes "end"; config = record { size = 9; min = 1; shares = 1000; samples = 100; period = 1000; rate = 256; quantum = 3; seed = 56266; stream = 0; tell = true; trace = (Read 5 1 16 ∷ Read 7 0 1 ∷ Read 5 4085 11 ∷ []) } } ∷ []);
+      record { name = codes "g0"; config = record { size = 6; min = 1; shares = 1000; samples = 25; period = 1; rate = 2; quantum = 3; seed = 0; stream = 0; tell = true; own_driver = true; page = 4; trace = ([]) } } ∷
+      record { name = codes "g1"; config = record { size = 9; min = 1; shares = 1000; samples = 10; period = 1000; rate = 2; quantum = 3; seed = 2724000318814824522; stream = 0; tell = true; own_driver = true; page = 4; trace = ([]) } } ∷
+      record { name = codes "end"; config = record { size = 9; min = 1; shares = 1000; samples = 100; period = 1000; rate = 256; quantum = 3; seed = 56266; stream = 0; tell = true; own_driver = true; page = 4; trace = (Read 5 1 16 ∷ Read 7 0 1 ∷ Read 5 4085 11 ∷ []) } } ∷ []);
   autostart = (true ∷ true ∷ false ∷ []);
   commands = (
       record { at = 0; line = codes "memshares g1 1" } ∷
@@ -504,11 +504,11 @@ drawn_23_report = codes "epoch 0\n> start g0\nok\n> start g1\nok\n> memshares g1
 
 abbrev pub drawn_24 : Config
 drawn_24 = record {
-  machine = record { frames = 4; swap = 9; overhead = 0; tax = 9900; percent = record { high = 1600; soft = 400; hard = 200; low = 200 }; page_rate = 16 };
+  machine = record { frames = 4; swap = 9; overhead = 0; tax = 9900; percent = record { high = 1600; soft = 400; hard = 200; low = 200 }; page_rate = 16; rebalance = 0; page = 4 };
   epochs = 2;
   domains = (
-      record { name = codes "."; config = record { size = 3; min = 1; shares = 31105; samples = 2; period = 20; rate = 9; quantum = 3; seed = 11941103544579482984; stream = 12043362097614548787; tell = true; trace = (Post Inflate (2 ∷ 0 ∷ 0 ∷ 0 ∷ 1 ∷ 0 ∷ 0 ∷ 0 ∷ []) ∷ Post Inflate (97 ∷ []) ∷ Idle ∷ Read 0 0 2 ∷ Write 1 535 (136 ∷ 17 ∷ []) ∷ Free 2 ∷ Post Deflate (42 ∷ 121 ∷ 167 ∷ []) ∷ Post Inflate (2 ∷ 0 ∷ 0 ∷ 0 ∷ []) ∷ Post Inflate (2 ∷ 0 ∷ 0 ∷ 0 ∷ 2 ∷ 0 ∷ 0 ∷ 0 ∷ 2 ∷ 0 ∷ 0 ∷ 0 ∷ []) ∷ Write 1 250 (180 ∷ 51 ∷ 122 ∷ 141 ∷ []) ∷ Read 1 0 3 ∷ Read 1 8 3 ∷ Read 1 1 5 ∷ Write 0 1 (37 ∷ 109 ∷ []) ∷ Read 0 250 1 ∷ Read 0 250 1 ∷ Write 0 522 (229 ∷ 27 ∷ []) ∷ Read 0 4095 1 ∷ Free 0 ∷ Read 2 250 12 ∷ []) } } ∷
-      record { name = codes "g1"; config = record { size = 6; min = 1; shares = 1000; samples = 100; period = 20; rate = 256; quantum = 3; seed = 18446744073709551615; stream = 0; tell = true; trace = ([]) } } ∷ []);
+      record { name = codes "."; config = record { size = 3; min = 1; shares = 31105; samples = 2; period = 20; rate = 9; quantum = 3; seed = 11941103544579482984; stream = 12043362097614548787; tell = true; own_driver = true; page = 4; trace = (Post Inflate (2 ∷ 0 ∷ 0 ∷ 0 ∷ 1 ∷ 0 ∷ 0 ∷ 0 ∷ []) ∷ Post Inflate (97 ∷ []) ∷ Idle ∷ Read 0 0 2 ∷ Write 1 535 (136 ∷ 17 ∷ []) ∷ Free 2 ∷ Post Deflate (42 ∷ 121 ∷ 167 ∷ []) ∷ Post Inflate (2 ∷ 0 ∷ 0 ∷ 0 ∷ []) ∷ Post Inflate (2 ∷ 0 ∷ 0 ∷ 0 ∷ 2 ∷ 0 ∷ 0 ∷ 0 ∷ 2 ∷ 0 ∷ 0 ∷ 0 ∷ []) ∷ Write 1 250 (180 ∷ 51 ∷ 122 ∷ 141 ∷ []) ∷ Read 1 0 3 ∷ Read 1 8 3 ∷ Read 1 1 5 ∷ Write 0 1 (37 ∷ 109 ∷ []) ∷ Read 0 250 1 ∷ Read 0 250 1 ∷ Write 0 522 (229 ∷ 27 ∷ []) ∷ Read 0 4095 1 ∷ Free 0 ∷ Read 2 250 12 ∷ []) } } ∷
+      record { name = codes "g1"; config = record { size = 6; min = 1; shares = 1000; samples = 100; period = 20; rate = 256; quantum = 3; seed = 18446744073709551615; stream = 0; tell = true; own_driver = true; page = 4; trace = ([]) } } ∷ []);
   autostart = (true ∷ false ∷ []);
   commands = (
       record { at = 3; line = codes "setmem . 12KiB" } ∷
@@ -522,12 +522,12 @@ drawn_24_report = codes "epoch 0\n> start .\nok\n> setmem . 10\nok\nstate high f
 
 abbrev pub drawn_25 : Config
 drawn_25 = record {
-  machine = record { frames = 8; swap = 12; overhead = 0; tax = 8854; percent = record { high = 600; soft = 400; hard = 200; low = 100 }; page_rate = 1 };
+  machine = record { frames = 8; swap = 12; overhead = 0; tax = 8854; percent = record { high = 600; soft = 400; hard = 200; low = 100 }; page_rate = 1; rebalance = 0; page = 4 };
   epochs = 2;
   domains = (
-      record { name = codes "g-1"; config = record { size = 6; min = 1; shares = 100; samples = 100; period = 7; rate = 4; quantum = 2; seed = 0; stream = 54; tell = true; trace = (Write 0 250 (242 ∷ 200 ∷ 243 ∷ 116 ∷ 164 ∷ 202 ∷ 18 ∷ 207 ∷ 76 ∷ 110 ∷ 59 ∷ 232 ∷ []) ∷ Read 1 3365 2 ∷ Read 4 4095 1 ∷ Write 4 0 (149 ∷ 156 ∷ 150 ∷ []) ∷ []) } } ∷
-      record { name = codes "c"; config = record { size = 8; min = 3; shares = 1; samples = 2; period = 10; rate = 1; quantum = 2; seed = 1; stream = 0; tell = true; trace = ([]) } } ∷
-      record { name = codes "q"; config = record { size = 8; min = 3; shares = 1000000; samples = 100; period = 1000; rate = 2; quantum = 2; seed = 27202; stream = 0; tell = false; trace = (Read 6 1495 1 ∷ Read 6 0 1 ∷ Read 0 0 13 ∷ Read 0 8 14 ∷ []) } } ∷ []);
+      record { name = codes "g-1"; config = record { size = 6; min = 1; shares = 100; samples = 100; period = 7; rate = 4; quantum = 2; seed = 0; stream = 54; tell = true; own_driver = true; page = 4; trace = (Write 0 250 (242 ∷ 200 ∷ 243 ∷ 116 ∷ 164 ∷ 202 ∷ 18 ∷ 207 ∷ 76 ∷ 110 ∷ 59 ∷ 232 ∷ []) ∷ Read 1 3365 2 ∷ Read 4 4095 1 ∷ Write 4 0 (149 ∷ 156 ∷ 150 ∷ []) ∷ []) } } ∷
+      record { name = codes "c"; config = record { size = 8; min = 3; shares = 1; samples = 2; period = 10; rate = 1; quantum = 2; seed = 1; stream = 0; tell = true; own_driver = true; page = 4; trace = ([]) } } ∷
+      record { name = codes "q"; config = record { size = 8; min = 3; shares = 1000000; samples = 100; period = 1000; rate = 2; quantum = 2; seed = 27202; stream = 0; tell = false; own_driver = true; page = 4; trace = (Read 6 1495 1 ∷ Read 6 0 1 ∷ Read 0 0 13 ∷ Read 0 8 14 ∷ []) } } ∷ []);
   autostart = (true ∷ false ∷ false ∷ []);
   commands = (
       record { at = 0; line = codes "dommemstat g-1" } ∷
@@ -547,12 +547,12 @@ drawn_25_report = codes "epoch 0\n> start g-1\nok\n> dommemstat g-1\nactual 24\n
 
 abbrev pub drawn_26 : Config
 drawn_26 = record {
-  machine = record { frames = 7; swap = 4194304; overhead = 1; tax = 5479; percent = record { high = 800; soft = 700; hard = 400; low = 0 }; page_rate = 3 };
+  machine = record { frames = 7; swap = 4194304; overhead = 1; tax = 5479; percent = record { high = 800; soft = 700; hard = 400; low = 0 }; page_rate = 3; rebalance = 0; page = 4 };
   epochs = 3;
   domains = (
-      record { name = codes "g0"; config = record { size = 4; min = 1; shares = 1000; samples = 100; period = 5; rate = 4; quantum = 1; seed = 1; stream = 54; tell = false; trace = (Post Stats (0 ∷ 1 ∷ 255 ∷ 255 ∷ 255 ∷ 255 ∷ 255 ∷ 255 ∷ 255 ∷ 255 ∷ 165 ∷ 221 ∷ 140 ∷ 7 ∷ 84 ∷ 80 ∷ []) ∷ Read 2 1 11 ∷ Post Deflate (2 ∷ 0 ∷ 0 ∷ 0 ∷ 0 ∷ 0 ∷ 0 ∷ 0 ∷ 0 ∷ 0 ∷ 0 ∷ 0 ∷ 1 ∷ 0 ∷ 0 ∷ 0 ∷ []) ∷ Post Inflate (2 ∷ 0 ∷ 0 ∷ 0 ∷ 0 ∷ 0 ∷ 0 ∷ 0 ∷ 0 ∷ 0 ∷ 0 ∷ 0 ∷ 0 ∷ 0 ∷ 0 ∷ 0 ∷ 3 ∷ 0 ∷ 0 ∷ 0 ∷ 3 ∷ 0 ∷ 0 ∷ 0 ∷ 2 ∷ 0 ∷ 0 ∷ 0 ∷ 3 ∷ 0 ∷ 0 ∷ 0 ∷ 2 ∷ 0 ∷ 0 ∷ 0 ∷ []) ∷ []) } } ∷
-      record { name = codes "g1"; config = record { size = 4; min = 1; shares = 1000; samples = 30; period = 20; rate = 256; quantum = 1; seed = 0; stream = 18446744073709551615; tell = false; trace = (Write 0 4085 (169 ∷ 167 ∷ 49 ∷ 145 ∷ 41 ∷ 63 ∷ 98 ∷ 21 ∷ 38 ∷ 200 ∷ 171 ∷ []) ∷ Write 0 250 (0 ∷ 126 ∷ []) ∷ Free 1 ∷ Free 2 ∷ []) } } ∷
-      record { name = codes "g2"; config = record { size = 4; min = 1; shares = 1000000; samples = 10; period = 50; rate = 1; quantum = 1; seed = 42214; stream = 9223372036854775808; tell = false; trace = (Read 0 250 1 ∷ []) } } ∷ []);
+      record { name = codes "g0"; config = record { size = 4; min = 1; shares = 1000; samples = 100; period = 5; rate = 4; quantum = 1; seed = 1; stream = 54; tell = false; own_driver = true; page = 4; trace = (Post Stats (0 ∷ 1 ∷ 255 ∷ 255 ∷ 255 ∷ 255 ∷ 255 ∷ 255 ∷ 255 ∷ 255 ∷ 165 ∷ 221 ∷ 140 ∷ 7 ∷ 84 ∷ 80 ∷ []) ∷ Read 2 1 11 ∷ Post Deflate (2 ∷ 0 ∷ 0 ∷ 0 ∷ 0 ∷ 0 ∷ 0 ∷ 0 ∷ 0 ∷ 0 ∷ 0 ∷ 0 ∷ 1 ∷ 0 ∷ 0 ∷ 0 ∷ []) ∷ Post Inflate (2 ∷ 0 ∷ 0 ∷ 0 ∷ 0 ∷ 0 ∷ 0 ∷ 0 ∷ 0 ∷ 0 ∷ 0 ∷ 0 ∷ 0 ∷ 0 ∷ 0 ∷ 0 ∷ 3 ∷ 0 ∷ 0 ∷ 0 ∷ 3 ∷ 0 ∷ 0 ∷ 0 ∷ 2 ∷ 0 ∷ 0 ∷ 0 ∷ 3 ∷ 0 ∷ 0 ∷ 0 ∷ 2 ∷ 0 ∷ 0 ∷ 0 ∷ []) ∷ []) } } ∷
+      record { name = codes "g1"; config = record { size = 4; min = 1; shares = 1000; samples = 30; period = 20; rate = 256; quantum = 1; seed = 0; stream = 18446744073709551615; tell = false; own_driver = true; page = 4; trace = (Write 0 4085 (169 ∷ 167 ∷ 49 ∷ 145 ∷ 41 ∷ 63 ∷ 98 ∷ 21 ∷ 38 ∷ 200 ∷ 171 ∷ []) ∷ Write 0 250 (0 ∷ 126 ∷ []) ∷ Free 1 ∷ Free 2 ∷ []) } } ∷
+      record { name = codes "g2"; config = record { size = 4; min = 1; shares = 1000000; samples = 10; period = 50; rate = 1; quantum = 1; seed = 42214; stream = 9223372036854775808; tell = false; own_driver = true; page = 4; trace = (Read 0 250 1 ∷ []) } } ∷ []);
   autostart = (true ∷ true ∷ false ∷ []);
   commands = (
       record { at = 0; line = codes "destroy g2" } ∷

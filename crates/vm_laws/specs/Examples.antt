@@ -6,10 +6,10 @@ use Rattle.vm_trace.specs.declared.step.Queue.TheVariants.{Inflate, Stats}
 
 abbrev pub early_in_flight : Config
 early_in_flight = record {
-  machine = record { frames = 100; swap = 2; overhead = 0; tax = 7500; percent = record { high = 600; soft = 400; hard = 200; low = 100 }; page_rate = 16 };
+  machine = record { frames = 100; swap = 2; overhead = 0; tax = 7500; percent = record { high = 600; soft = 400; hard = 200; low = 100 }; page_rate = 16; rebalance = 0; page = 4 };
   epochs = 2;
   domains = (
-      record { name = codes "g"; config = record { size = 4; min = 2; shares = 1000; samples = 1; period = 1000; rate = 16; quantum = 100; seed = 42; stream = 54; tell = false; trace = (Read 3 0 1 ∷ []) } } ∷ []);
+      record { name = codes "g"; config = record { size = 4; min = 2; shares = 1000; samples = 1; period = 1000; rate = 16; quantum = 100; seed = 42; stream = 54; tell = false; own_driver = true; page = 4; trace = (Read 3 0 1 ∷ []) } } ∷ []);
   autostart = (true ∷ []);
   commands = (
       record { at = 0; line = codes "setmem g 8" } ∷ []);
@@ -20,10 +20,10 @@ early_in_flight_report = codes "epoch 0\n> start g\nok\n> setmem g 8\nok\nstate 
 
 abbrev pub early_use_longer : Config
 early_use_longer = record {
-  machine = record { frames = 100; swap = 2; overhead = 0; tax = 7500; percent = record { high = 600; soft = 400; hard = 200; low = 100 }; page_rate = 16 };
+  machine = record { frames = 100; swap = 2; overhead = 0; tax = 7500; percent = record { high = 600; soft = 400; hard = 200; low = 100 }; page_rate = 16; rebalance = 0; page = 4 };
   epochs = 3;
   domains = (
-      record { name = codes "g"; config = record { size = 4; min = 2; shares = 1000; samples = 1; period = 1000; rate = 16; quantum = 1; seed = 42; stream = 54; tell = false; trace = (Idle ∷ Read 3 0 1 ∷ []) } } ∷ []);
+      record { name = codes "g"; config = record { size = 4; min = 2; shares = 1000; samples = 1; period = 1000; rate = 16; quantum = 1; seed = 42; stream = 54; tell = false; own_driver = true; page = 4; trace = (Idle ∷ Read 3 0 1 ∷ []) } } ∷ []);
   autostart = (true ∷ []);
   commands = (
       record { at = 0; line = codes "setmem g 8" } ∷ []);
@@ -34,10 +34,10 @@ early_use_longer_report = codes "epoch 0\n> start g\nok\n> setmem g 8\nok\nstate
 
 abbrev pub early_use : Config
 early_use = record {
-  machine = record { frames = 100; swap = 2; overhead = 0; tax = 7500; percent = record { high = 600; soft = 400; hard = 200; low = 100 }; page_rate = 16 };
+  machine = record { frames = 100; swap = 2; overhead = 0; tax = 7500; percent = record { high = 600; soft = 400; hard = 200; low = 100 }; page_rate = 16; rebalance = 0; page = 4 };
   epochs = 2;
   domains = (
-      record { name = codes "g"; config = record { size = 4; min = 2; shares = 1000; samples = 1; period = 1000; rate = 16; quantum = 1; seed = 42; stream = 54; tell = false; trace = (Idle ∷ Read 3 0 1 ∷ []) } } ∷ []);
+      record { name = codes "g"; config = record { size = 4; min = 2; shares = 1000; samples = 1; period = 1000; rate = 16; quantum = 1; seed = 42; stream = 54; tell = false; own_driver = true; page = 4; trace = (Idle ∷ Read 3 0 1 ∷ []) } } ∷ []);
   autostart = (true ∷ []);
   commands = (
       record { at = 0; line = codes "setmem g 8" } ∷ []);
@@ -48,10 +48,10 @@ early_use_report = codes "epoch 0\n> start g\nok\n> setmem g 8\nok\nstate high f
 
 abbrev pub first_read : Config
 first_read = record {
-  machine = record { frames = 100; swap = 0; overhead = 0; tax = 7500; percent = record { high = 600; soft = 400; hard = 200; low = 100 }; page_rate = 16 };
+  machine = record { frames = 100; swap = 0; overhead = 0; tax = 7500; percent = record { high = 600; soft = 400; hard = 200; low = 100 }; page_rate = 16; rebalance = 0; page = 4 };
   epochs = 1;
   domains = (
-      record { name = codes "web"; config = record { size = 4; min = 4; shares = 1000; samples = 100; period = 1000; rate = 16; quantum = 100; seed = 0; stream = 0; tell = true; trace = (Write 0 0 (255 ∷ []) ∷ Read 0 0 4 ∷ []) } } ∷ []);
+      record { name = codes "web"; config = record { size = 4; min = 4; shares = 1000; samples = 100; period = 1000; rate = 16; quantum = 100; seed = 0; stream = 0; tell = true; own_driver = true; page = 4; trace = (Write 0 0 (255 ∷ []) ∷ Read 0 0 4 ∷ []) } } ∷ []);
   autostart = (true ∷ []);
   commands = ([]);
 }
@@ -61,14 +61,14 @@ first_read_report = codes "epoch 0\n> start web\nok\nstate high free 96\nweb r 0
 
 abbrev pub five_guests : Config
 five_guests = record {
-  machine = record { frames = 20; swap = 0; overhead = 0; tax = 7500; percent = record { high = 600; soft = 400; hard = 200; low = 100 }; page_rate = 16 };
+  machine = record { frames = 20; swap = 0; overhead = 0; tax = 7500; percent = record { high = 600; soft = 400; hard = 200; low = 100 }; page_rate = 16; rebalance = 0; page = 4 };
   epochs = 1;
   domains = (
-      record { name = codes "g0"; config = record { size = 2; min = 2; shares = 1000; samples = 100; period = 1000; rate = 16; quantum = 100; seed = 0; stream = 0; tell = true; trace = (Write 0 0 (16 ∷ []) ∷ Read 0 0 1 ∷ []) } } ∷
-      record { name = codes "g1"; config = record { size = 2; min = 2; shares = 1000; samples = 100; period = 1000; rate = 16; quantum = 100; seed = 0; stream = 0; tell = true; trace = (Write 0 0 (17 ∷ []) ∷ Read 0 0 1 ∷ []) } } ∷
-      record { name = codes "g2"; config = record { size = 2; min = 2; shares = 1000; samples = 100; period = 1000; rate = 16; quantum = 100; seed = 0; stream = 0; tell = true; trace = (Write 0 0 (18 ∷ []) ∷ Read 0 0 1 ∷ []) } } ∷
-      record { name = codes "g3"; config = record { size = 2; min = 2; shares = 1000; samples = 100; period = 1000; rate = 16; quantum = 100; seed = 0; stream = 0; tell = true; trace = (Write 0 0 (19 ∷ []) ∷ Read 0 0 1 ∷ []) } } ∷
-      record { name = codes "g4"; config = record { size = 2; min = 2; shares = 1000; samples = 100; period = 1000; rate = 16; quantum = 100; seed = 0; stream = 0; tell = true; trace = (Write 0 0 (20 ∷ []) ∷ Read 0 0 1 ∷ []) } } ∷ []);
+      record { name = codes "g0"; config = record { size = 2; min = 2; shares = 1000; samples = 100; period = 1000; rate = 16; quantum = 100; seed = 0; stream = 0; tell = true; own_driver = true; page = 4; trace = (Write 0 0 (16 ∷ []) ∷ Read 0 0 1 ∷ []) } } ∷
+      record { name = codes "g1"; config = record { size = 2; min = 2; shares = 1000; samples = 100; period = 1000; rate = 16; quantum = 100; seed = 0; stream = 0; tell = true; own_driver = true; page = 4; trace = (Write 0 0 (17 ∷ []) ∷ Read 0 0 1 ∷ []) } } ∷
+      record { name = codes "g2"; config = record { size = 2; min = 2; shares = 1000; samples = 100; period = 1000; rate = 16; quantum = 100; seed = 0; stream = 0; tell = true; own_driver = true; page = 4; trace = (Write 0 0 (18 ∷ []) ∷ Read 0 0 1 ∷ []) } } ∷
+      record { name = codes "g3"; config = record { size = 2; min = 2; shares = 1000; samples = 100; period = 1000; rate = 16; quantum = 100; seed = 0; stream = 0; tell = true; own_driver = true; page = 4; trace = (Write 0 0 (19 ∷ []) ∷ Read 0 0 1 ∷ []) } } ∷
+      record { name = codes "g4"; config = record { size = 2; min = 2; shares = 1000; samples = 100; period = 1000; rate = 16; quantum = 100; seed = 0; stream = 0; tell = true; own_driver = true; page = 4; trace = (Write 0 0 (20 ∷ []) ∷ Read 0 0 1 ∷ []) } } ∷ []);
   autostart = (true ∷ true ∷ true ∷ true ∷ true ∷ []);
   commands = ([]);
 }
@@ -78,10 +78,10 @@ five_guests_report = codes "epoch 0\n> start g0\nok\n> start g1\nok\n> start g2\
 
 abbrev pub freed_reads_zero : Config
 freed_reads_zero = record {
-  machine = record { frames = 100; swap = 0; overhead = 0; tax = 7500; percent = record { high = 600; soft = 400; hard = 200; low = 100 }; page_rate = 16 };
+  machine = record { frames = 100; swap = 0; overhead = 0; tax = 7500; percent = record { high = 600; soft = 400; hard = 200; low = 100 }; page_rate = 16; rebalance = 0; page = 4 };
   epochs = 1;
   domains = (
-      record { name = codes "web"; config = record { size = 4; min = 4; shares = 1000; samples = 100; period = 1000; rate = 16; quantum = 100; seed = 0; stream = 0; tell = true; trace = (Write 0 0 (255 ∷ []) ∷ Free 0 ∷ Read 0 0 1 ∷ []) } } ∷ []);
+      record { name = codes "web"; config = record { size = 4; min = 4; shares = 1000; samples = 100; period = 1000; rate = 16; quantum = 100; seed = 0; stream = 0; tell = true; own_driver = true; page = 4; trace = (Write 0 0 (255 ∷ []) ∷ Free 0 ∷ Read 0 0 1 ∷ []) } } ∷ []);
   autostart = (true ∷ []);
   commands = ([]);
 }
@@ -91,11 +91,11 @@ freed_reads_zero_report = codes "epoch 0\n> start web\nok\nstate high free 96\nw
 
 abbrev pub low_and_back : Config
 low_and_back = record {
-  machine = record { frames = 100; swap = 90; overhead = 0; tax = 7500; percent = record { high = 600; soft = 400; hard = 200; low = 100 }; page_rate = 1 };
+  machine = record { frames = 100; swap = 90; overhead = 0; tax = 7500; percent = record { high = 600; soft = 400; hard = 200; low = 100 }; page_rate = 1; rebalance = 0; page = 4 };
   epochs = 4;
   domains = (
-      record { name = codes "a"; config = record { size = 100; min = 10; shares = 1000; samples = 100; period = 1000; rate = 16; quantum = 1; seed = 0; stream = 0; tell = true; trace = (Idle ∷ Read 0 0 1 ∷ Read 1 0 1 ∷ []) } } ∷
-      record { name = codes "b"; config = record { size = 5; min = 5; shares = 1000; samples = 100; period = 1000; rate = 16; quantum = 1; seed = 0; stream = 0; tell = true; trace = ([]) } } ∷ []);
+      record { name = codes "a"; config = record { size = 100; min = 10; shares = 1000; samples = 100; period = 1000; rate = 16; quantum = 1; seed = 0; stream = 0; tell = true; own_driver = true; page = 4; trace = (Idle ∷ Read 0 0 1 ∷ Read 1 0 1 ∷ []) } } ∷
+      record { name = codes "b"; config = record { size = 5; min = 5; shares = 1000; samples = 100; period = 1000; rate = 16; quantum = 1; seed = 0; stream = 0; tell = true; own_driver = true; page = 4; trace = ([]) } } ∷ []);
   autostart = (true ∷ false ∷ []);
   commands = (
       record { at = 1; line = codes "start b" } ∷ []);
@@ -106,10 +106,10 @@ low_and_back_report = codes "epoch 0\n> start a\nok\nstate high free 90\ngrant a
 
 abbrev pub no_epochs : Config
 no_epochs = record {
-  machine = record { frames = 100; swap = 0; overhead = 0; tax = 7500; percent = record { high = 600; soft = 400; hard = 200; low = 100 }; page_rate = 16 };
+  machine = record { frames = 100; swap = 0; overhead = 0; tax = 7500; percent = record { high = 600; soft = 400; hard = 200; low = 100 }; page_rate = 16; rebalance = 0; page = 4 };
   epochs = 0;
   domains = (
-      record { name = codes "web"; config = record { size = 4; min = 4; shares = 1000; samples = 100; period = 1000; rate = 16; quantum = 100; seed = 0; stream = 0; tell = true; trace = (Write 0 0 (255 ∷ []) ∷ Read 0 0 4 ∷ []) } } ∷ []);
+      record { name = codes "web"; config = record { size = 4; min = 4; shares = 1000; samples = 100; period = 1000; rate = 16; quantum = 100; seed = 0; stream = 0; tell = true; own_driver = true; page = 4; trace = (Write 0 0 (255 ∷ []) ∷ Read 0 0 4 ∷ []) } } ∷ []);
   autostart = (true ∷ []);
   commands = ([]);
 }
@@ -119,7 +119,7 @@ no_epochs_report = codes "end\nmachine 100 held 0 free 100 overhead 0\n"
 
 abbrev pub no_guests : Config
 no_guests = record {
-  machine = record { frames = 10; swap = 0; overhead = 0; tax = 7500; percent = record { high = 600; soft = 400; hard = 200; low = 100 }; page_rate = 16 };
+  machine = record { frames = 10; swap = 0; overhead = 0; tax = 7500; percent = record { high = 600; soft = 400; hard = 200; low = 100 }; page_rate = 16; rebalance = 0; page = 4 };
   epochs = 1;
   domains = ([]);
   autostart = ([]);
@@ -131,11 +131,11 @@ no_guests_report = codes "epoch 0\nstate high free 10\nend\nmachine 10 held 0 fr
 
 abbrev pub overhead_admitted : Config
 overhead_admitted = record {
-  machine = record { frames = 100; swap = 0; overhead = 1; tax = 7500; percent = record { high = 600; soft = 400; hard = 200; low = 100 }; page_rate = 16 };
+  machine = record { frames = 100; swap = 0; overhead = 1; tax = 7500; percent = record { high = 600; soft = 400; hard = 200; low = 100 }; page_rate = 16; rebalance = 0; page = 4 };
   epochs = 1;
   domains = (
-      record { name = codes "a"; config = record { size = 60; min = 60; shares = 1000; samples = 100; period = 1000; rate = 16; quantum = 100; seed = 0; stream = 0; tell = true; trace = ([]) } } ∷
-      record { name = codes "b"; config = record { size = 38; min = 38; shares = 1000; samples = 100; period = 1000; rate = 16; quantum = 100; seed = 0; stream = 0; tell = true; trace = ([]) } } ∷ []);
+      record { name = codes "a"; config = record { size = 60; min = 60; shares = 1000; samples = 100; period = 1000; rate = 16; quantum = 100; seed = 0; stream = 0; tell = true; own_driver = true; page = 4; trace = ([]) } } ∷
+      record { name = codes "b"; config = record { size = 38; min = 38; shares = 1000; samples = 100; period = 1000; rate = 16; quantum = 100; seed = 0; stream = 0; tell = true; own_driver = true; page = 4; trace = ([]) } } ∷ []);
   autostart = (true ∷ true ∷ []);
   commands = ([]);
 }
@@ -145,11 +145,11 @@ overhead_admitted_report = codes "epoch 0\n> start a\nok\n> start b\nok\nstate l
 
 abbrev pub overhead_refused : Config
 overhead_refused = record {
-  machine = record { frames = 100; swap = 0; overhead = 1; tax = 7500; percent = record { high = 600; soft = 400; hard = 200; low = 100 }; page_rate = 16 };
+  machine = record { frames = 100; swap = 0; overhead = 1; tax = 7500; percent = record { high = 600; soft = 400; hard = 200; low = 100 }; page_rate = 16; rebalance = 0; page = 4 };
   epochs = 1;
   domains = (
-      record { name = codes "a"; config = record { size = 60; min = 60; shares = 1000; samples = 100; period = 1000; rate = 16; quantum = 100; seed = 0; stream = 0; tell = true; trace = ([]) } } ∷
-      record { name = codes "b"; config = record { size = 39; min = 39; shares = 1000; samples = 100; period = 1000; rate = 16; quantum = 100; seed = 0; stream = 0; tell = true; trace = ([]) } } ∷ []);
+      record { name = codes "a"; config = record { size = 60; min = 60; shares = 1000; samples = 100; period = 1000; rate = 16; quantum = 100; seed = 0; stream = 0; tell = true; own_driver = true; page = 4; trace = ([]) } } ∷
+      record { name = codes "b"; config = record { size = 39; min = 39; shares = 1000; samples = 100; period = 1000; rate = 16; quantum = 100; seed = 0; stream = 0; tell = true; own_driver = true; page = 4; trace = ([]) } } ∷ []);
   autostart = (true ∷ true ∷ []);
   commands = ([]);
 }
@@ -159,11 +159,11 @@ overhead_refused_report = codes "epoch 0\n> start a\nok\n> start b\nerror 8 no m
 
 abbrev pub raised_minimum : Config
 raised_minimum = record {
-  machine = record { frames = 100; swap = 98; overhead = 0; tax = 7500; percent = record { high = 600; soft = 400; hard = 200; low = 100 }; page_rate = 16 };
+  machine = record { frames = 100; swap = 98; overhead = 0; tax = 7500; percent = record { high = 600; soft = 400; hard = 200; low = 100 }; page_rate = 16; rebalance = 0; page = 4 };
   epochs = 2;
   domains = (
-      record { name = codes "a"; config = record { size = 90; min = 10; shares = 1000; samples = 100; period = 1000; rate = 16; quantum = 1; seed = 0; stream = 0; tell = true; trace = ([]) } } ∷
-      record { name = codes "b"; config = record { size = 20; min = 2; shares = 1; samples = 100; period = 1000; rate = 16; quantum = 1; seed = 0; stream = 0; tell = true; trace = ([]) } } ∷ []);
+      record { name = codes "a"; config = record { size = 90; min = 10; shares = 1000; samples = 100; period = 1000; rate = 16; quantum = 1; seed = 0; stream = 0; tell = true; own_driver = true; page = 4; trace = ([]) } } ∷
+      record { name = codes "b"; config = record { size = 20; min = 2; shares = 1; samples = 100; period = 1000; rate = 16; quantum = 1; seed = 0; stream = 0; tell = true; own_driver = true; page = 4; trace = ([]) } } ∷ []);
   autostart = (true ∷ true ∷ []);
   commands = (
       record { at = 1; line = codes "memtune b --min-guarantee 64" } ∷ []);
@@ -174,10 +174,10 @@ raised_minimum_report = codes "epoch 0\n> start a\nok\n> start b\nok\nstate high
 
 abbrev pub raw_inflate : Config
 raw_inflate = record {
-  machine = record { frames = 100; swap = 0; overhead = 0; tax = 7500; percent = record { high = 600; soft = 400; hard = 200; low = 100 }; page_rate = 16 };
+  machine = record { frames = 100; swap = 0; overhead = 0; tax = 7500; percent = record { high = 600; soft = 400; hard = 200; low = 100 }; page_rate = 16; rebalance = 0; page = 4 };
   epochs = 2;
   domains = (
-      record { name = codes "g"; config = record { size = 4; min = 4; shares = 1000; samples = 100; period = 1000; rate = 16; quantum = 100; seed = 0; stream = 0; tell = true; trace = (Write 0 0 (255 ∷ []) ∷ Post Inflate (0 ∷ 0 ∷ 0 ∷ 0 ∷ []) ∷ Read 0 0 1 ∷ []) } } ∷ []);
+      record { name = codes "g"; config = record { size = 4; min = 4; shares = 1000; samples = 100; period = 1000; rate = 16; quantum = 100; seed = 0; stream = 0; tell = true; own_driver = true; page = 4; trace = (Write 0 0 (255 ∷ []) ∷ Post Inflate (0 ∷ 0 ∷ 0 ∷ 0 ∷ []) ∷ Read 0 0 1 ∷ []) } } ∷ []);
   autostart = (true ∷ []);
   commands = ([]);
 }
@@ -187,10 +187,10 @@ raw_inflate_report = codes "epoch 0\n> start g\nok\nstate high free 96\ng stall 
 
 abbrev pub reserves_enough : Config
 reserves_enough = record {
-  machine = record { frames = 100; swap = 12; overhead = 0; tax = 7500; percent = record { high = 600; soft = 400; hard = 200; low = 100 }; page_rate = 16 };
+  machine = record { frames = 100; swap = 12; overhead = 0; tax = 7500; percent = record { high = 600; soft = 400; hard = 200; low = 100 }; page_rate = 16; rebalance = 0; page = 4 };
   epochs = 1;
   domains = (
-      record { name = codes "a"; config = record { size = 16; min = 4; shares = 1000; samples = 100; period = 1000; rate = 16; quantum = 100; seed = 0; stream = 0; tell = true; trace = ([]) } } ∷ []);
+      record { name = codes "a"; config = record { size = 16; min = 4; shares = 1000; samples = 100; period = 1000; rate = 16; quantum = 100; seed = 0; stream = 0; tell = true; own_driver = true; page = 4; trace = ([]) } } ∷ []);
   autostart = (true ∷ []);
   commands = ([]);
 }
@@ -200,10 +200,10 @@ reserves_enough_report = codes "epoch 0\n> start a\nok\nstate high free 96\ngran
 
 abbrev pub reserves_lowered : Config
 reserves_lowered = record {
-  machine = record { frames = 100; swap = 12; overhead = 0; tax = 7500; percent = record { high = 600; soft = 400; hard = 200; low = 100 }; page_rate = 16 };
+  machine = record { frames = 100; swap = 12; overhead = 0; tax = 7500; percent = record { high = 600; soft = 400; hard = 200; low = 100 }; page_rate = 16; rebalance = 0; page = 4 };
   epochs = 1;
   domains = (
-      record { name = codes "a"; config = record { size = 16; min = 8; shares = 1000; samples = 100; period = 1000; rate = 16; quantum = 100; seed = 0; stream = 0; tell = true; trace = ([]) } } ∷ []);
+      record { name = codes "a"; config = record { size = 16; min = 8; shares = 1000; samples = 100; period = 1000; rate = 16; quantum = 100; seed = 0; stream = 0; tell = true; own_driver = true; page = 4; trace = ([]) } } ∷ []);
   autostart = (true ∷ []);
   commands = (
       record { at = 0; line = codes "memtune a --min-guarantee 16" } ∷
@@ -216,10 +216,10 @@ reserves_lowered_report = codes "epoch 0\n> start a\nok\n> memtune a --min-guara
 
 abbrev pub reserves_short : Config
 reserves_short = record {
-  machine = record { frames = 100; swap = 11; overhead = 0; tax = 7500; percent = record { high = 600; soft = 400; hard = 200; low = 100 }; page_rate = 16 };
+  machine = record { frames = 100; swap = 11; overhead = 0; tax = 7500; percent = record { high = 600; soft = 400; hard = 200; low = 100 }; page_rate = 16; rebalance = 0; page = 4 };
   epochs = 1;
   domains = (
-      record { name = codes "a"; config = record { size = 16; min = 4; shares = 1000; samples = 100; period = 1000; rate = 16; quantum = 100; seed = 0; stream = 0; tell = true; trace = ([]) } } ∷ []);
+      record { name = codes "a"; config = record { size = 16; min = 4; shares = 1000; samples = 100; period = 1000; rate = 16; quantum = 100; seed = 0; stream = 0; tell = true; own_driver = true; page = 4; trace = ([]) } } ∷ []);
   autostart = (true ∷ []);
   commands = ([]);
 }
@@ -229,10 +229,10 @@ reserves_short_report = codes "epoch 0\n> start a\nerror 9 no swap to reserve\ns
 
 abbrev pub restart : Config
 restart = record {
-  machine = record { frames = 100; swap = 0; overhead = 0; tax = 7500; percent = record { high = 600; soft = 400; hard = 200; low = 100 }; page_rate = 16 };
+  machine = record { frames = 100; swap = 0; overhead = 0; tax = 7500; percent = record { high = 600; soft = 400; hard = 200; low = 100 }; page_rate = 16; rebalance = 0; page = 4 };
   epochs = 2;
   domains = (
-      record { name = codes "web"; config = record { size = 4; min = 4; shares = 1000; samples = 100; period = 1000; rate = 16; quantum = 100; seed = 0; stream = 0; tell = true; trace = (Write 0 0 (255 ∷ []) ∷ Read 0 0 4 ∷ []) } } ∷ []);
+      record { name = codes "web"; config = record { size = 4; min = 4; shares = 1000; samples = 100; period = 1000; rate = 16; quantum = 100; seed = 0; stream = 0; tell = true; own_driver = true; page = 4; trace = (Write 0 0 (255 ∷ []) ∷ Read 0 0 4 ∷ []) } } ∷ []);
   autostart = (true ∷ []);
   commands = (
       record { at = 1; line = codes "destroy web" } ∷
@@ -246,10 +246,10 @@ restart_report = codes "epoch 0\n> start web\nok\nstate high free 96\nweb r 0 0 
 
 abbrev pub sizes : Config
 sizes = record {
-  machine = record { frames = 1000; swap = 200; overhead = 0; tax = 7500; percent = record { high = 600; soft = 400; hard = 200; low = 100 }; page_rate = 16 };
+  machine = record { frames = 1000; swap = 200; overhead = 0; tax = 7500; percent = record { high = 600; soft = 400; hard = 200; low = 100 }; page_rate = 16; rebalance = 0; page = 4 };
   epochs = 1;
   domains = (
-      record { name = codes "web"; config = record { size = 300; min = 100; shares = 1000; samples = 100; period = 1000; rate = 16; quantum = 100; seed = 0; stream = 0; tell = true; trace = ([]) } } ∷ []);
+      record { name = codes "web"; config = record { size = 300; min = 100; shares = 1000; samples = 100; period = 1000; rate = 16; quantum = 100; seed = 0; stream = 0; tell = true; own_driver = true; page = 4; trace = ([]) } } ∷ []);
   autostart = (true ∷ []);
   commands = (
       record { at = 0; line = codes "setmem web 1MB" } ∷
@@ -267,10 +267,10 @@ sizes_report = codes "epoch 0\n> start web\nok\n> setmem web 1MB\nok\n> setmem w
 
 abbrev pub slow_decay : Config
 slow_decay = record {
-  machine = record { frames = 100; swap = 0; overhead = 0; tax = 7500; percent = record { high = 600; soft = 400; hard = 200; low = 100 }; page_rate = 16 };
+  machine = record { frames = 100; swap = 0; overhead = 0; tax = 7500; percent = record { high = 600; soft = 400; hard = 200; low = 100 }; page_rate = 16; rebalance = 0; page = 4 };
   epochs = 3;
   domains = (
-      record { name = codes "z"; config = record { size = 1; min = 1; shares = 1000; samples = 4; period = 2; rate = 16; quantum = 2; seed = 0; stream = 0; tell = true; trace = ([]) } } ∷ []);
+      record { name = codes "z"; config = record { size = 1; min = 1; shares = 1000; samples = 4; period = 2; rate = 16; quantum = 2; seed = 0; stream = 0; tell = true; own_driver = true; page = 4; trace = ([]) } } ∷ []);
   autostart = (true ∷ []);
   commands = ([]);
 }
@@ -280,10 +280,10 @@ slow_decay_report = codes "epoch 0\n> start z\nok\nstate high free 99\nepoch 1\n
 
 abbrev pub stall_on_absent : Config
 stall_on_absent = record {
-  machine = record { frames = 100; swap = 2; overhead = 0; tax = 7500; percent = record { high = 600; soft = 400; hard = 200; low = 100 }; page_rate = 16 };
+  machine = record { frames = 100; swap = 2; overhead = 0; tax = 7500; percent = record { high = 600; soft = 400; hard = 200; low = 100 }; page_rate = 16; rebalance = 0; page = 4 };
   epochs = 2;
   domains = (
-      record { name = codes "g"; config = record { size = 4; min = 2; shares = 1000; samples = 1; period = 1000; rate = 16; quantum = 100; seed = 42; stream = 54; tell = true; trace = (Read 3 0 1 ∷ []) } } ∷ []);
+      record { name = codes "g"; config = record { size = 4; min = 2; shares = 1000; samples = 1; period = 1000; rate = 16; quantum = 100; seed = 42; stream = 54; tell = true; own_driver = true; page = 4; trace = (Read 3 0 1 ∷ []) } } ∷ []);
   autostart = (true ∷ []);
   commands = (
       record { at = 0; line = codes "setmem g 8" } ∷ []);
@@ -294,10 +294,10 @@ stall_on_absent_report = codes "epoch 0\n> start g\nok\n> setmem g 8\nok\nstate 
 
 abbrev pub statistics_driver : Config
 statistics_driver = record {
-  machine = record { frames = 100; swap = 0; overhead = 0; tax = 7500; percent = record { high = 600; soft = 400; hard = 200; low = 100 }; page_rate = 16 };
+  machine = record { frames = 100; swap = 0; overhead = 0; tax = 7500; percent = record { high = 600; soft = 400; hard = 200; low = 100 }; page_rate = 16; rebalance = 0; page = 4 };
   epochs = 2;
   domains = (
-      record { name = codes "g"; config = record { size = 4; min = 4; shares = 1000; samples = 100; period = 1000; rate = 16; quantum = 100; seed = 0; stream = 0; tell = true; trace = ([]) } } ∷ []);
+      record { name = codes "g"; config = record { size = 4; min = 4; shares = 1000; samples = 100; period = 1000; rate = 16; quantum = 100; seed = 0; stream = 0; tell = true; own_driver = true; page = 4; trace = ([]) } } ∷ []);
   autostart = (true ∷ []);
   commands = (
       record { at = 1; line = codes "dommemstat g" } ∷ []);
@@ -308,10 +308,10 @@ statistics_driver_report = codes "epoch 0\n> start g\nok\nstate high free 96\nep
 
 abbrev pub statistics_raw : Config
 statistics_raw = record {
-  machine = record { frames = 100; swap = 0; overhead = 0; tax = 7500; percent = record { high = 600; soft = 400; hard = 200; low = 100 }; page_rate = 16 };
+  machine = record { frames = 100; swap = 0; overhead = 0; tax = 7500; percent = record { high = 600; soft = 400; hard = 200; low = 100 }; page_rate = 16; rebalance = 0; page = 4 };
   epochs = 2;
   domains = (
-      record { name = codes "g"; config = record { size = 4; min = 4; shares = 1000; samples = 100; period = 1000; rate = 16; quantum = 100; seed = 0; stream = 0; tell = true; trace = (Post Stats (5 ∷ 0 ∷ 0 ∷ 0 ∷ 1 ∷ 0 ∷ 0 ∷ 0 ∷ 0 ∷ 0 ∷ []) ∷ []) } } ∷ []);
+      record { name = codes "g"; config = record { size = 4; min = 4; shares = 1000; samples = 100; period = 1000; rate = 16; quantum = 100; seed = 0; stream = 0; tell = true; own_driver = true; page = 4; trace = (Post Stats (5 ∷ 0 ∷ 0 ∷ 0 ∷ 1 ∷ 0 ∷ 0 ∷ 0 ∷ 0 ∷ 0 ∷ []) ∷ []) } } ∷ []);
   autostart = (true ∷ []);
   commands = (
       record { at = 1; line = codes "dommemstat g" } ∷ []);
@@ -322,10 +322,10 @@ statistics_raw_report = codes "epoch 0\n> start g\nok\nstate high free 96\nepoch
 
 abbrev pub statistics_repeated : Config
 statistics_repeated = record {
-  machine = record { frames = 100; swap = 0; overhead = 0; tax = 7500; percent = record { high = 600; soft = 400; hard = 200; low = 100 }; page_rate = 16 };
+  machine = record { frames = 100; swap = 0; overhead = 0; tax = 7500; percent = record { high = 600; soft = 400; hard = 200; low = 100 }; page_rate = 16; rebalance = 0; page = 4 };
   epochs = 2;
   domains = (
-      record { name = codes "g"; config = record { size = 4; min = 4; shares = 1000; samples = 100; period = 1000; rate = 16; quantum = 100; seed = 0; stream = 0; tell = true; trace = (Post Stats (4 ∷ 0 ∷ 0 ∷ 16 ∷ 0 ∷ 0 ∷ 0 ∷ 0 ∷ 0 ∷ 0 ∷ 99 ∷ 0 ∷ 1 ∷ 0 ∷ 0 ∷ 0 ∷ 0 ∷ 0 ∷ 0 ∷ 0 ∷ 5 ∷ 0 ∷ 0 ∷ 32 ∷ 0 ∷ 0 ∷ 0 ∷ 0 ∷ 0 ∷ 0 ∷ []) ∷ []) } } ∷ []);
+      record { name = codes "g"; config = record { size = 4; min = 4; shares = 1000; samples = 100; period = 1000; rate = 16; quantum = 100; seed = 0; stream = 0; tell = true; own_driver = true; page = 4; trace = (Post Stats (4 ∷ 0 ∷ 0 ∷ 16 ∷ 0 ∷ 0 ∷ 0 ∷ 0 ∷ 0 ∷ 0 ∷ 99 ∷ 0 ∷ 1 ∷ 0 ∷ 0 ∷ 0 ∷ 0 ∷ 0 ∷ 0 ∷ 0 ∷ 5 ∷ 0 ∷ 0 ∷ 32 ∷ 0 ∷ 0 ∷ 0 ∷ 0 ∷ 0 ∷ 0 ∷ []) ∷ []) } } ∷ []);
   autostart = (true ∷ []);
   commands = (
       record { at = 1; line = codes "dommemstat g" } ∷ []);
@@ -336,10 +336,10 @@ statistics_repeated_report = codes "epoch 0\n> start g\nok\nstate high free 96\n
 
 abbrev pub swap_and_stall : Config
 swap_and_stall = record {
-  machine = record { frames = 100; swap = 2; overhead = 0; tax = 7500; percent = record { high = 600; soft = 400; hard = 200; low = 100 }; page_rate = 16 };
+  machine = record { frames = 100; swap = 2; overhead = 0; tax = 7500; percent = record { high = 600; soft = 400; hard = 200; low = 100 }; page_rate = 16; rebalance = 0; page = 4 };
   epochs = 2;
   domains = (
-      record { name = codes "g"; config = record { size = 4; min = 2; shares = 1000; samples = 1; period = 1000; rate = 16; quantum = 100; seed = 42; stream = 54; tell = true; trace = (Write 0 0 (170 ∷ []) ∷ Write 1 0 (187 ∷ []) ∷ Write 2 0 (204 ∷ []) ∷ Read 0 0 1 ∷ []) } } ∷ []);
+      record { name = codes "g"; config = record { size = 4; min = 2; shares = 1000; samples = 1; period = 1000; rate = 16; quantum = 100; seed = 42; stream = 54; tell = true; own_driver = true; page = 4; trace = (Write 0 0 (170 ∷ []) ∷ Write 1 0 (187 ∷ []) ∷ Write 2 0 (204 ∷ []) ∷ Read 0 0 1 ∷ []) } } ∷ []);
   autostart = (true ∷ []);
   commands = (
       record { at = 0; line = codes "setmem g 8" } ∷ []);
@@ -350,10 +350,10 @@ swap_and_stall_report = codes "epoch 0\n> start g\nok\n> setmem g 8\nok\nstate h
 
 abbrev pub told_first : Config
 told_first = record {
-  machine = record { frames = 100; swap = 2; overhead = 0; tax = 7500; percent = record { high = 600; soft = 400; hard = 200; low = 100 }; page_rate = 16 };
+  machine = record { frames = 100; swap = 2; overhead = 0; tax = 7500; percent = record { high = 600; soft = 400; hard = 200; low = 100 }; page_rate = 16; rebalance = 0; page = 4 };
   epochs = 2;
   domains = (
-      record { name = codes "g"; config = record { size = 4; min = 2; shares = 1000; samples = 1; period = 1000; rate = 16; quantum = 1; seed = 42; stream = 54; tell = true; trace = (Idle ∷ Read 3 0 1 ∷ []) } } ∷ []);
+      record { name = codes "g"; config = record { size = 4; min = 2; shares = 1000; samples = 1; period = 1000; rate = 16; quantum = 1; seed = 42; stream = 54; tell = true; own_driver = true; page = 4; trace = (Idle ∷ Read 3 0 1 ∷ []) } } ∷ []);
   autostart = (true ∷ []);
   commands = (
       record { at = 0; line = codes "setmem g 8" } ∷ []);
@@ -364,10 +364,10 @@ told_first_report = codes "epoch 0\n> start g\nok\n> setmem g 8\nok\nstate high 
 
 abbrev pub too_many_raw : Config
 too_many_raw = record {
-  machine = record { frames = 100; swap = 0; overhead = 0; tax = 7500; percent = record { high = 600; soft = 400; hard = 200; low = 100 }; page_rate = 16 };
+  machine = record { frames = 100; swap = 0; overhead = 0; tax = 7500; percent = record { high = 600; soft = 400; hard = 200; low = 100 }; page_rate = 16; rebalance = 0; page = 4 };
   epochs = 1;
   domains = (
-      record { name = codes "g"; config = record { size = 4; min = 4; shares = 1000; samples = 100; period = 1000; rate = 16; quantum = 100; seed = 0; stream = 0; tell = true; trace = (Post Stats (0 ∷ []) ∷ Post Stats (0 ∷ []) ∷ Post Stats (0 ∷ []) ∷ Post Stats (0 ∷ []) ∷ Post Stats (0 ∷ []) ∷ Post Stats (0 ∷ []) ∷ Post Stats (0 ∷ []) ∷ Post Stats (0 ∷ []) ∷ Post Stats (0 ∷ []) ∷ Post Stats (0 ∷ []) ∷ Post Stats (0 ∷ []) ∷ Post Stats (0 ∷ []) ∷ Post Stats (0 ∷ []) ∷ Post Stats (0 ∷ []) ∷ Post Stats (0 ∷ []) ∷ Post Stats (0 ∷ []) ∷ Post Stats (0 ∷ []) ∷ []) } } ∷ []);
+      record { name = codes "g"; config = record { size = 4; min = 4; shares = 1000; samples = 100; period = 1000; rate = 16; quantum = 100; seed = 0; stream = 0; tell = true; own_driver = true; page = 4; trace = (Post Stats (0 ∷ []) ∷ Post Stats (0 ∷ []) ∷ Post Stats (0 ∷ []) ∷ Post Stats (0 ∷ []) ∷ Post Stats (0 ∷ []) ∷ Post Stats (0 ∷ []) ∷ Post Stats (0 ∷ []) ∷ Post Stats (0 ∷ []) ∷ Post Stats (0 ∷ []) ∷ Post Stats (0 ∷ []) ∷ Post Stats (0 ∷ []) ∷ Post Stats (0 ∷ []) ∷ Post Stats (0 ∷ []) ∷ Post Stats (0 ∷ []) ∷ Post Stats (0 ∷ []) ∷ Post Stats (0 ∷ []) ∷ Post Stats (0 ∷ []) ∷ []) } } ∷ []);
   autostart = (true ∷ []);
   commands = ([]);
 }
@@ -377,11 +377,11 @@ too_many_raw_report = codes "epoch 0\n> start g\nok\nstate high free 96\nend\ng 
 
 abbrev pub two_in_order : Config
 two_in_order = record {
-  machine = record { frames = 100; swap = 0; overhead = 0; tax = 7500; percent = record { high = 600; soft = 400; hard = 200; low = 100 }; page_rate = 16 };
+  machine = record { frames = 100; swap = 0; overhead = 0; tax = 7500; percent = record { high = 600; soft = 400; hard = 200; low = 100 }; page_rate = 16; rebalance = 0; page = 4 };
   epochs = 2;
   domains = (
-      record { name = codes "a"; config = record { size = 2; min = 2; shares = 1000; samples = 100; period = 1000; rate = 16; quantum = 1; seed = 0; stream = 0; tell = true; trace = (Write 0 0 (10 ∷ []) ∷ Read 0 0 1 ∷ []) } } ∷
-      record { name = codes "b"; config = record { size = 1; min = 1; shares = 1000; samples = 100; period = 1000; rate = 16; quantum = 1; seed = 0; stream = 0; tell = true; trace = (Read 0 0 2 ∷ []) } } ∷ []);
+      record { name = codes "a"; config = record { size = 2; min = 2; shares = 1000; samples = 100; period = 1000; rate = 16; quantum = 1; seed = 0; stream = 0; tell = true; own_driver = true; page = 4; trace = (Write 0 0 (10 ∷ []) ∷ Read 0 0 1 ∷ []) } } ∷
+      record { name = codes "b"; config = record { size = 1; min = 1; shares = 1000; samples = 100; period = 1000; rate = 16; quantum = 1; seed = 0; stream = 0; tell = true; own_driver = true; page = 4; trace = (Read 0 0 2 ∷ []) } } ∷ []);
   autostart = (true ∷ true ∷ []);
   commands = ([]);
 }
@@ -391,10 +391,10 @@ two_in_order_report = codes "epoch 0\n> start a\nok\n> start b\nok\nstate high f
 
 abbrev pub version_2 : Config
 version_2 = record {
-  machine = record { frames = 200; swap = 190; overhead = 0; tax = 7500; percent = record { high = 650; soft = 450; hard = 250; low = 50 }; page_rate = 16 };
+  machine = record { frames = 200; swap = 190; overhead = 0; tax = 7500; percent = record { high = 650; soft = 450; hard = 250; low = 50 }; page_rate = 16; rebalance = 0; page = 4 };
   epochs = 1;
   domains = (
-      record { name = codes "web"; config = record { size = 200; min = 10; shares = 1000; samples = 100; period = 1000; rate = 16; quantum = 100; seed = 0; stream = 0; tell = true; trace = (Read 0 0 1 ∷ []) } } ∷ []);
+      record { name = codes "web"; config = record { size = 200; min = 10; shares = 1000; samples = 100; period = 1000; rate = 16; quantum = 100; seed = 0; stream = 0; tell = true; own_driver = true; page = 4; trace = (Read 0 0 1 ∷ []) } } ∷ []);
   autostart = (true ∷ []);
   commands = ([]);
 }

@@ -26,9 +26,9 @@ with_code_text = codes "{\"version\":2,\"quantum\":4,\"guests\":[{\"name\":\"gue
 
 abbrev pub with_code_config : Config
 with_code_config = record {
-  machine = record { frames = 5; swap = 2; overhead = 0; tax = 7500; percent = record { high = 600; soft = 400; hard = 200; low = 100 }; page_rate = 16 };
+  machine = record { frames = 5; swap = 2; overhead = 0; tax = 7500; percent = record { high = 600; soft = 400; hard = 200; low = 100 }; page_rate = 16; rebalance = 0; page = 4 };
   epochs = 3;
-  domains = record { name = codes "guest"; config = record { size = 4; min = 2; shares = 1000; samples = 100; period = 1000; rate = 16; quantum = 4; seed = 0; stream = 0; tell = true; trace = Read 0 0 1 ∷ Read 1 2024 1 ∷ Idle ∷ Idle ∷ Write 0 4094 (2 ∷ []) ∷ Write 2 0 (2 ∷ []) ∷ Read 3 3000 1 ∷ Write 3 3000 (2 ∷ []) ∷ Read 0 3 1 ∷ Read 3 3000 1 ∷ [] } } ∷ [];
+  domains = record { name = codes "guest"; config = record { size = 4; min = 2; shares = 1000; samples = 100; period = 1000; rate = 16; quantum = 4; seed = 0; stream = 0; tell = true; own_driver = true; page = 4; trace = Read 0 0 1 ∷ Read 1 2024 1 ∷ Idle ∷ Idle ∷ Write 0 4094 (2 ∷ []) ∷ Write 2 0 (2 ∷ []) ∷ Read 3 3000 1 ∷ Write 3 3000 (2 ∷ []) ∷ Read 0 3 1 ∷ Read 3 3000 1 ∷ [] } } ∷ [];
   autostart = true ∷ [];
   commands = [];
 }
@@ -42,9 +42,9 @@ no_code_text = codes "{\"version\":2,\"quantum\":2,\"guests\":[{\"name\":\"web\"
 
 abbrev pub no_code_config : Config
 no_code_config = record {
-  machine = record { frames = 5; swap = 0; overhead = 0; tax = 7500; percent = record { high = 600; soft = 400; hard = 200; low = 100 }; page_rate = 16 };
+  machine = record { frames = 5; swap = 0; overhead = 0; tax = 7500; percent = record { high = 600; soft = 400; hard = 200; low = 100 }; page_rate = 16; rebalance = 0; page = 4 };
   epochs = 6;
-  domains = record { name = codes "web"; config = record { size = 4; min = 4; shares = 1000; samples = 100; period = 1000; rate = 16; quantum = 2; seed = 0; stream = 0; tell = true; trace = Idle ∷ Idle ∷ Read 0 2024 1 ∷ Idle ∷ Write 1 4094 (3 ∷ []) ∷ Write 2 0 (3 ∷ []) ∷ Read 3 3000 1 ∷ Write 3 3000 (4 ∷ []) ∷ Idle ∷ Idle ∷ Read 3 3000 1 ∷ [] } } ∷ [];
+  domains = record { name = codes "web"; config = record { size = 4; min = 4; shares = 1000; samples = 100; period = 1000; rate = 16; quantum = 2; seed = 0; stream = 0; tell = true; own_driver = true; page = 4; trace = Idle ∷ Idle ∷ Read 0 2024 1 ∷ Idle ∷ Write 1 4094 (3 ∷ []) ∷ Write 2 0 (3 ∷ []) ∷ Read 3 3000 1 ∷ Write 3 3000 (4 ∷ []) ∷ Idle ∷ Idle ∷ Read 3 3000 1 ∷ [] } } ∷ [];
   autostart = true ∷ [];
   commands = [];
 }

@@ -1,9 +1,9 @@
 -- The configuration that the text of an import means.
-use Rattle.std.specs.Prelude.{◌≡◌, ℕ, ◌≤◌, ◌+◌, ◌-◌, ◌%◌, if◌then◌else◌, true, List, [], ◌∷◌, ◌++◌, length, map, replicate, Option, Ok}
+use Rattle.std.specs.Prelude.{◌≡◌, ⊤, ℕ, ◌≤◌, ◌+◌, ◌-◌, ◌%◌, if◌then◌else◌, true, List, [], ◌∷◌, ◌++◌, length, map, replicate, Option, Ok}
 use Rattle.std.specs.Option.{ForSome}
 use Rattle.vm_config.specs.declared.config.Config.{Config}
 use Rattle.vm_config.specs.Names.{is_name}
-use Rattle.vm_config.specs.Reading.{config_of, steps_from}
+use Rattle.vm_config.specs.Reading.{config_of}
 use Rattle.vm_domains.specs.Machine.{MachineConfig}
 use Rattle.vm_guest.specs.Config.{GuestConfig}
 use Rattle.vm_import.specs.Guests.{epochs_of, frames_for, guest_of, min_of}
@@ -17,6 +17,8 @@ use Rattle.vm_import.specs.Logs.{log_of}
 use Rattle.vm_import.specs.declared.access.Access.{Access}
 use Rattle.vm_trace.specs.declared.step.Action.{Action}
 use Rattle.vm_trace.specs.declared.step.Action.TheVariants.{Idle, Read, Write}
+use Rattle.vm_trace.specs.Sized.{steps_in}
+use Rattle.vm_trace.specs.Versions.{before_3}
 use Rattle.vm_import.specs.declared.touch.RankedTouch.{RankedTouch}
 
 -- ---- steps
@@ -53,6 +55,8 @@ guest_config settings size trace = record {
   seed = 0;
   stream = 0;
   tell = true;
+  own_driver = true;
+  page = 4;
   trace = trace;
 }
 
@@ -65,6 +69,8 @@ machine_for settings size = record {
   tax = 7500;
   percent = record { high = 600; soft = 400; hard = 200; low = 100 };
   page_rate = 16;
+  rebalance = 0;
+  page = 4;
 }
 
 -- both, with as many epochs as the steps fill
@@ -107,10 +113,16 @@ Means text c = config_of text ≡ Ok c
 abbrev pub IsRead : Settings → List Access → Type 0
 IsRead settings accesses = Means (text_of settings (guest_of settings accesses)) (imported_config settings accesses)
 
+-- each text by itself is the step at its place, for a guest of this size
+abbrev pub MeanSteps : (size : ℕ) → List (List ℕ) → List Action → Type 0
+MeanSteps size [] [] = ⊤
+MeanSteps size [] (step ∷ steps) = ⊥
+MeanSteps size (text ∷ texts) [] = ⊥
+MeanSteps size (text ∷ texts) (step ∷ steps) = (steps_in (before_3 262144) size text ≡ Ok (step ∷ [])) × MeanSteps size texts steps
+
 -- the texts of its steps, one by one, are its steps
 abbrev pub AreRead : Settings → List Access → Type 0
-AreRead settings accesses =
-    steps_from 262144 (guest_of settings accesses).size 0 (guest_of settings accesses).trace [] ≡ Ok (actions_of settings accesses)
+AreRead settings accesses = MeanSteps (guest_of settings accesses).size (guest_of settings accesses).trace (actions_of settings accesses)
 
 -- the text is that of a guest which the log makes: it means its configuration, and is no longer than what `vmmem` reads
 pub record IsImported (settings : Settings) (log text : List ℕ) : Type 0 where

@@ -38,6 +38,8 @@ pub data ReportLine : Type 0 where
   Page : List ℕ → ℕ → ReportLine
   -- grant NAME COUNT
   Grant : List ℕ → ℕ → ReportLine
+  -- rebalance NAME COUNT
+  Rebalance : List ℕ → ℕ → ReportLine
   -- block NAME
   Block : List ℕ → ReportLine
   -- NAME r PAGE OFFSET BYTES
@@ -60,6 +62,7 @@ text_of (Found state free) = state_line state free
 text_of (Revoke name count) = move_line (codes "revoke") name count
 text_of (Page name count) = move_line (codes "page") name count
 text_of (Grant name count) = move_line (codes "grant") name count
+text_of (Rebalance name count) = move_line (codes "rebalance") name count
 text_of (Block name) = block_line name
 text_of (Read name read) = read_line name read
 text_of (Stall name page) = stall_line name page
@@ -92,7 +95,7 @@ module _ (w : World) where
   abbrev pub lines_of_boundary : ℕ → Boundary → List ReportLine
   lines_of_boundary k b =
       Epoch k ∷ (flat_map lines_of_answer b.answers ++ (Found b.state b.free ∷ (moved Revoke b.revoked
-      ++ (map paged_at b.paged ++ (moved Grant b.granted ++ map blocked_at b.blocked)))))
+      ++ (map paged_at b.paged ++ (moved Grant b.granted ++ (moved Rebalance b.rebalanced ++ map blocked_at b.blocked))))))
 
 -- ---- an epoch
 

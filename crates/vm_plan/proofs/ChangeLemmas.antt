@@ -6,7 +6,7 @@ use Rattle.vm_tax.specs.Offers.{offer_at}
 use Rattle.vm_plan.specs.Row.{Row, change_at}
 use Rattle.vm_plan.proofs.GrantRunLemmas.{row_in}
 
-set_other : (rows : List Row) (k j : ℕ) (new : Row) → j ≢ k → slice_get (slice_set rows k new) j ≡ slice_get rows j
+pub set_other : (rows : List Row) (k j : ℕ) (new : Row) → j ≢ k → slice_get (slice_set rows k new) j ≡ slice_get rows j
 set_other [] k j new ne = refl
 set_other (row ∷ rows) zero zero new ne = absurd (ne refl)
 set_other (row ∷ rows) zero (suc j) new ne = refl

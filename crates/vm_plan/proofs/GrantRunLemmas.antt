@@ -149,7 +149,7 @@ ahead_before tax row position pages last rival other few ahead =
         (cases_lt (rival.shares * (pages * weight_of tax row.active)) (row.shares * rival.weighted_pages))
 
 -- what comes before the best of the others comes before each of them
-beats_each : (offers : List (Option Ratio)) (a : Ratio) (position other : ℕ) → (best : IsGreatest offers other) → 0 < a.shares → AllHaveShares offers → IsAbove a position best.ratio other
+pub beats_each : (offers : List (Option Ratio)) (a : Ratio) (position other : ℕ) → (best : IsGreatest offers other) → 0 < a.shares → AllHaveShares offers → IsAbove a position best.ratio other
     → (o : ℕ) (that : Ratio) → offer_at offers o ≡ Some that → IsAbove a position that o
 beats_each offers a position other best some shares mine o that e =
     ⊎_elim

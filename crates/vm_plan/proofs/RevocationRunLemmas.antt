@@ -25,7 +25,7 @@ use Rattle.vm_plan.proofs.SumLemmas.{sum-change, total_target}
 
 -- ---- one revocation after another
 
-lowered_row-none : (row : Row) → lowered_row 0 row ≡ row
+pub lowered_row-none : (row : Row) → lowered_row 0 row ≡ row
 lowered_row-none row = let target : row.target - 0 ≡ row.target = omega arith in λ i. record row { target = target i }
 
 pub lowered_row-more : (k : ℕ) (row : Row) → revoked_row (lowered_row k row) ≡ lowered_row (k + 1) row
@@ -92,7 +92,7 @@ behind_before tax row position pages last rival other few behind =
         (cases_lt (row.shares * rival.weighted_pages) (rival.shares * (pages * weight_of tax row.active)))
 
 -- what stands before the best of the others stands before each of them
-below_each : (offers : List (Option Ratio)) (a : Ratio) (position other : ℕ) → (best : IsLeast offers other) → 0 < a.shares → AllHaveShares offers → IsBelow a position best.ratio other
+pub below_each : (offers : List (Option Ratio)) (a : Ratio) (position other : ℕ) → (best : IsLeast offers other) → 0 < a.shares → AllHaveShares offers → IsBelow a position best.ratio other
     → (o : ℕ) (that : Ratio) → offer_at offers o ≡ Some that → IsBelow a position that o
 below_each offers a position other best some shares mine o that e =
     ⊎_elim
@@ -109,7 +109,7 @@ offers_lowered tax row k above =
     let still : nat_lt row.min (row.target - k) ≡ true = lt-ltb row.min (row.target - k) (omega arith) in
     rw still refl
 
-least_lowered : (tax : Tax) (rows : List Row) (position : ℕ) (row : Row) (k : ℕ) → slice_get rows position ≡ Some row → row.min + k < row.target
+pub least_lowered : (tax : Tax) (rows : List Row) (position : ℕ) (row : Row) (k : ℕ) → slice_get rows position ≡ Some row → row.min + k < row.target
     → ((o : ℕ) (that : Ratio) → offer_at (others (revocable_ratios tax rows) position) o ≡ Some that → IsBelow (ratio_with tax row (row.target - k)) position that o)
     → IsLeast (revocable_ratios tax (rows_with rows position row k)) position
 least_lowered tax rows position row k at above beats =

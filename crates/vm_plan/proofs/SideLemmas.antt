@@ -91,7 +91,7 @@ givers_take_none tax rows (giver ∷ givers) h each (suc i) (suc j) l m e =
 
 -- ---- both sides after a transfer
 
-raised_row-more : (k : ℕ) (row : Row) → taken_row (raised_row k row) ≡ raised_row (k + 1) row
+pub raised_row-more : (k : ℕ) (row : Row) → taken_row (raised_row k row) ≡ raised_row (k + 1) row
 raised_row-more k row =
     let target : (row.target + k) + 1 ≡ row.target + (k + 1) = omega arith in
     let demand : (row.demand - k) - 1 ≡ row.demand - (k + 1) = omega arith in
@@ -199,26 +199,26 @@ grown_after tax rows grown giver taker h t are k =
 
 -- ---- the next transfer, by what the sides name
 
-less_then_most : (a b c : Ratio) → 0 < c.shares → IsLess a b → IsAtMost b c → IsLess a c
+pub less_then_most : (a b c : Ratio) → 0 < c.shares → IsLess a b → IsAtMost b c → IsLess a c
 less_then_most a b c some l m = less-chain_left a.shares a.weighted_pages b.shares b.weighted_pages c.shares c.weighted_pages some l m
 
-most_then_less : (a b c : Ratio) → 0 < a.shares → IsAtMost a b → IsLess b c → IsLess a c
+pub most_then_less : (a b c : Ratio) → 0 < a.shares → IsAtMost a b → IsLess b c → IsLess a c
 most_then_less a b c some l m = less-chain_right a.shares a.weighted_pages b.shares b.weighted_pages c.shares c.weighted_pages some l m
 
-shares_at : (rows : List Row) (k : ℕ) (row : Row) → HaveShares rows → slice_get rows k ≡ Some row → 1 ≤ row.shares
+pub shares_at : (rows : List Row) (k : ℕ) (row : Row) → HaveShares rows → slice_get rows k ≡ Some row → 1 ≤ row.shares
 shares_at rows k row h at = subst (λ (r : Row). 1 ≤ r.shares) (get_or_from_slice_get rows k row row at) (h k row (slice_get_within rows k row at))
 
-price_has_shares : (tax : Tax) (row : Row) (pages : ℕ) → 1 ≤ row.shares → 0 < (ratio_with tax row pages).shares
+pub price_has_shares : (tax : Tax) (row : Row) (pages : ℕ) → 1 ≤ row.shares → 0 < (ratio_with tax row pages).shares
 price_has_shares tax row pages h = rw (adjusted_ratio-shares tax row.shares pages row.active) h
 
 -- the row whose price is offered
-revocable_at : (tax : Tax) (rows : List Row) (k : ℕ) (ratio : Ratio) → offer_at (revocable_ratios tax rows) k ≡ Some ratio → (row : Row) × (slice_get rows k ≡ Some row) × (row.min < row.target) × (ratio_with tax row row.target ≡ ratio)
+pub revocable_at : (tax : Tax) (rows : List Row) (k : ℕ) (ratio : Ratio) → offer_at (revocable_ratios tax rows) k ≡ Some ratio → (row : Row) × (slice_get rows k ≡ Some row) × (row.min < row.target) × (ratio_with tax row row.target ≡ ratio)
 revocable_at tax rows k ratio e =
     let there = offered_row (revocable_ratio tax) rows k ratio e in
     let is = cond_some (nat_lt there.0.min there.0.target) (ratio_with tax there.0 there.0.target) ratio there.2 in
     (there.0, there.1, ltb-true _ _ is.0, is.1)
 
-taking_at : (tax : Tax) (rows : List Row) (k : ℕ) (ratio : Ratio) → offer_at (taking_ratios tax rows) k ≡ Some ratio → (row : Row) × (slice_get rows k ≡ Some row) × (0 < row.demand) × (row.target < row.cap) × (ratio_with tax row (row.target + 1) ≡ ratio)
+pub taking_at : (tax : Tax) (rows : List Row) (k : ℕ) (ratio : Ratio) → offer_at (taking_ratios tax rows) k ≡ Some ratio → (row : Row) × (slice_get rows k ≡ Some row) × (0 < row.demand) × (row.target < row.cap) × (ratio_with tax row (row.target + 1) ≡ ratio)
 taking_at tax rows k ratio e =
     let there = offered_row (taking_ratio tax) rows k ratio e in
     let is = cond_some (nat_lt 0 there.0.demand && nat_lt there.0.target there.0.cap) (ratio_with tax there.0 (there.0.target + 1)) ratio there.2 in
@@ -259,7 +259,7 @@ gives_price tax rows k row at above =
     let offered : revocable_ratio tax row ≡ Some (ratio_with tax row row.target) = rw test refl in
     offer_of (revocable_ratio tax) rows k row at ∙ offered
 
-takes_price : (tax : Tax) (rows : List Row) (k : ℕ) (row : Row) → slice_get rows k ≡ Some row → 0 < row.demand → row.target < row.cap → offer_at (taking_ratios tax rows) k ≡ Some (ratio_with tax row (row.target + 1))
+pub takes_price : (tax : Tax) (rows : List Row) (k : ℕ) (row : Row) → slice_get rows k ≡ Some row → 0 < row.demand → row.target < row.cap → offer_at (taking_ratios tax rows) k ≡ Some (ratio_with tax row (row.target + 1))
 takes_price tax rows k row at demand room =
     let wants : nat_lt 0 row.demand ≡ true = lt-ltb 0 row.demand demand in
     let below : nat_lt row.target row.cap ≡ true = lt-ltb row.target row.cap room in

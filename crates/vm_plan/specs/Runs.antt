@@ -1,13 +1,15 @@
--- Grants to one guest that follow each other, and revocations from one; in a rebalancing, who would be granted a page first: for private contracts alone.
-use Rattle.std.specs.Prelude.{ℕ, List, ◌≢◌, ◌+◌, ◌-◌, ◌≤◌, IfSome, IsSomeAnd, min, max, replicate, slice_get}
-use Rattle.vm_tax.specs.Ratio.{Ratio, Tax, IsAbove, IsBelow}
+-- Grants to one guest that follow each other, revocations from one, and pages that go from one to another; in a rebalancing, who would be
+-- granted a page first: for private contracts alone.
+use Rattle.std.specs.Prelude.{ℕ, List, Option, ◌≢◌, ◌+◌, ◌-◌, ◌<◌, ◌≤◌, IfSome, IsSomeAnd, min, max, replicate, slice_get}
+use Rattle.vm_tax.specs.Ratio.{Ratio, Tax, IsAbove, IsBelow, IsLess}
 use Rattle.vm_tax.specs.Offers.{IsLeast}
 use Rattle.vm_plan.specs.declared.state.State.{State}
 use Rattle.vm_plan.specs.declared.thresholds.Thresholds.{Thresholds}
-use Rattle.vm_plan.specs.Row.{Row, ratio_with, revocable_ratios, wanting_ratio}
+use Rattle.vm_plan.specs.Row.{Row, ratio_with, revocable_ratios, wanting_ratio, change_at}
 use Rattle.vm_plan.specs.Revocation.{rows_after}
 use Rattle.vm_plan.specs.Moves.{EachMove}
 use Rattle.vm_plan.specs.Grants.{Pool, IsNextGrant, pool_after}
+use Rattle.vm_plan.specs.Rebalancing.{IsTransfer}
 
 -- ---- grants
 
@@ -73,3 +75,32 @@ Leads tax price position row other = position ≢ other → IfSome (wanting_rati
 -- .. before each other guest
 abbrev pub LeadsAll : Tax → Ratio → (position : ℕ) → List Row → Type 0
 LeadsAll tax price position rows = (other : ℕ) → IfSome (slice_get rows other) (λ row. Leads tax price position row other)
+
+-- the guests after so many pages went from one to another
+abbrev pub rows_moved : List Row → (giver taker count : ℕ) → List Row
+rows_moved rows giver taker count = change_at (raised_row count) (change_at (lowered_row count) rows giver) taker
+
+-- Each of so many pages that go from one guest to another is the next one after those before it.
+pub record IsFlow (tax : Tax) (rows : List Row) (giver taker count : ℕ) : Type 0 where
+  pub some : 1 ≤ count
+  pub each_next : (k : ℕ) → k < count → IsTransfer tax (rows_moved rows giver taker k) giver taker
+
+-- at such a price a guest gives before its rival, if it has one
+abbrev pub GivesFirst : Tax → List Row → Ratio → (position : ℕ) → (rival : Option ℕ) → Type 0
+GivesFirst tax rows price position rival = IfSome rival (λ other. IfSome (slice_get rows other) (λ row. IsBelow price position (ratio_with tax row row.target) other))
+
+-- a guest that pays so much takes before its rival, if it has one
+abbrev pub TakesFirst : Tax → List Row → Ratio → (position : ℕ) → (rival : Option ℕ) → Type 0
+TakesFirst tax rows price position rival = IfSome rival (λ other. IfSome (slice_get rows other) (λ row. IsAbove price position (ratio_with tax row (row.target + 1)) other))
+
+-- After so many pages went, one more that the giver gave would be granted to the taker before it.
+abbrev pub IsKept : Tax → (from to : Row) → (giver taker given : ℕ) → Type 0
+IsKept tax from to giver taker given = 0 < from.demand → ¬ IsAbove (ratio_with tax from ((from.target - given) - 1)) giver (ratio_with tax to (to.target + given)) taker
+
+-- After so many pages went from one guest to another, the next one goes the same way: neither rival comes first, the taker would pay more, and
+-- the page doesn't come straight back.
+pub record GoesOn (tax : Tax) (rows : List Row) (from to : Row) (giver taker : ℕ) (giving taking : Option ℕ) (given : ℕ) : Type 0 where
+  pub gives : GivesFirst tax rows (ratio_with tax from (from.target - given)) giver giving
+  pub takes : TakesFirst tax rows (ratio_with tax to ((to.target + given) + 1)) taker taking
+  pub more : IsLess (ratio_with tax from (from.target - given)) (ratio_with tax to ((to.target + given) + 1))
+  pub stays : IsKept tax from to giver taker given

@@ -13,6 +13,7 @@ mod moves;
 mod paging;
 mod plan;
 mod rebalance;
+mod rebalancing_runs;
 mod revocation;
 mod revocation_runs;
 mod row;

@@ -12,15 +12,16 @@ ghost use Rattle.vm_plan.specs.Runs.{Leads, LeadsAll};
 ghost use Rattle.vm_plan.specs.Sides.{AreSides, Pays};
 
 use crate::plan::Plan;
+use crate::rebalancing_runs::{Streak, flow_length};
 use crate::row::PlanRow;
 use crate::tracking::{copy_of, track_revocable, track_taking};
-use crate::transfers::{Transfer, move_page};
+use crate::transfers::{Transfer, move_pages};
 use std::alloc::{AllocError, Global};
 use std::cmp::Ordering;
 use vm_tax::{Greatest, Price, Winners, cmp_price};
 
 /// Whether a price at one position is above a price at another.
-fn is_above(price: &Price, position: u32, rival: &Price, other: u32) -> bool
+pub(crate) fn is_above(price: &Price, position: u32, rival: &Price, other: u32) -> bool
     requires { price.now.tax ≡ rival.now.tax }
     ensures { IsTrue result ↔ IsAbove (ratio_of price.now) position (ratio_of rival.now) other }
 {
@@ -139,9 +140,11 @@ fn next_transfer(
 /// The `min` of each row is what its guest can't give without paging. `tax` is in hundredths of a percent. Each entry is the guest of the
 /// least price among those above that; the guest that would pay most for one page more takes the page. The plan ends where that isn't
 /// more than the price, or the page would come straight back as the next grant, and has at most `limit` entries. A guest that takes
-/// gives nothing later, so each entry can be taken from the target that its guest had, less the entries before. An entry costs a
-/// logarithm of the number of rows, and at most once for each guest a pass over them. The only error is a want of memory, where there
-/// is a row and the limit is above 0.
+/// gives nothing later, so each entry can be taken from the target that its guest had, less the entries before.
+///
+/// An entry costs a logarithm of the number of rows, and at most once for each guest a pass over them. Entries in which one guest gives to
+/// the same other one many times in a row are found at once. Where several guests take turns to give or to take, as many do whose prices
+/// met, each entry costs as much as one alone. The only error is a want of memory, where there is a row and the limit is above 0.
 pub fn rebalancing(
     alloc: Global,
     tax: u32,
@@ -168,14 +171,26 @@ pub fn rebalancing(
     let mut givers = track_revocable(alloc, tax, rows)?;
     let mut takers = track_taking(alloc, tax, rows)?;
     let mut plan = Plan::new(alloc);
+    let mut streak = Streak::new();
     let mut left = limit;
     while left > 0 {
         let Some(transfer) = next_transfer(tax, &after, &givers, &takers) else {
             break;
         };
-        move_page(tax, &mut after, &mut givers, &mut takers, transfer);
-        plan.push(transfer.giver, 1)?;
-        left -= 1;
+        let before = streak.before(transfer);
+        let count = flow_length(
+            left,
+            tax,
+            &after,
+            &mut givers,
+            &mut takers,
+            transfer,
+            before,
+        );
+        move_pages(tax, &mut after, &mut givers, &mut takers, transfer, count);
+        plan.push(transfer.giver, count)?;
+        streak.add(transfer, count);
+        left -= count;
     }
     Ok(plan)
 }

@@ -1,12 +1,13 @@
 //! Revocations from one guest that follow each other are found together: how many pages a guest loses before another one is next.
-ghost use Rattle.std.specs.Prelude.{◌≡◌, ◌≤◌, ◌<◌, ◌↔◌, All, IfSome, IfNone, IsNone, IsTrue, length};
+ghost use Rattle.std.specs.Prelude.{◌≡◌, ◌≤◌, ◌<◌, ◌↔◌, List, All, IfSome, IfNone, IsNone, IsTrue, length, slice_get};
 ghost use Rattle.vm_tax.specs.Offers.{IsLeast};
 ghost use Rattle.vm_tax.specs.Price.{ratio_of};
 ghost use Rattle.vm_tax.specs.Ratio.{hundredths};
 ghost use Rattle.vm_plan.specs.declared.tracking.Kind.TheVariants.{Revocable};
 ghost use Rattle.vm_plan.specs.PlanRow.{row_of, rows_of};
-ghost use Rattle.vm_plan.specs.Row.{others, revocable_ratios};
+ghost use Rattle.vm_plan.specs.Row.{Row, others, revocable_ratios};
 ghost use Rattle.vm_plan.specs.Runs.{IsBehind, IsFall};
+ghost use Rattle.vm_plan.specs.Sides.{IsSideAt};
 ghost use Rattle.vm_plan.specs.Track.{IsTracked};
 
 use crate::plan::FEW;
@@ -60,14 +61,23 @@ fn least_behind(
     high
 }
 
-/// The guest that comes first among the others that revocation may take from.
-fn rival_of(tax: u32, rows: &[PlanRow], winners: &mut Winners, position: u32) -> Option<u32>
+/// The guest that comes first among the others that may be taken from. The prices may be those of guests of which this one alone is as in
+/// the rows: in a rebalancing others took pages.
+pub(crate) fn rival_of(
+    tax: u32,
+    rows: &[PlanRow],
+    winners: &mut Winners,
+    position: u32,
+) -> Option<u32>
     requires tax { tax ≤ 9999 }
     requires within { position < length rows.now }
-    requires tracked { IsTracked Revocable tax winners.old (rows_of rows.now) }
-    ensures some { IfSome result (IsLeast (others (revocable_ratios (hundredths tax) (rows_of rows.now)) position)) }
-    ensures none { IfNone result (All IsNone (others (revocable_ratios (hundredths tax) (rows_of rows.now)) position)) }
-    ensures tracked { IsTracked Revocable tax winners.new (rows_of rows.now) }
+    requires side { IsSideAt Revocable tax winners.old (rows_of rows.now) position }
+    ensures some { (own : List Row) → IsTracked Revocable tax winners.old own →
+        IfSome result (IsLeast (others (revocable_ratios (hundredths tax) own) position)) }
+    ensures none { (own : List Row) → IsTracked Revocable tax winners.old own →
+        IfNone result (All IsNone (others (revocable_ratios (hundredths tax) own) position)) }
+    ensures side { (own : List Row) → slice_get own position ≡ slice_get (rows_of rows.now) position →
+        IsTracked Revocable tax winners.old own → IsTracked Revocable tax winners.new own }
 {
     winners.set(position, None);
     let rival = winners.least();

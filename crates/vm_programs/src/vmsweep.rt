@@ -1,5 +1,5 @@
-//! The program `vmsweep [--frames LIST] [--swap LIST] [--tax LIST] [--page-rate LIST] [--guests | --svg] [--progress] [--workers N]`,
-//! as a call.
+//! The program `vmsweep [--frames LIST] [--swap LIST] [--tax LIST] [--page-rate LIST] [--rebalance LIST] [--guests | --svg]
+//! [--progress] [--workers N]`, as a call.
 //!
 //! [`vmsweep`] runs the configuration on standard input once for each combination of the values that the words list, and writes a
 //! table with a record for each run, or for each run and guest, or a drawing to standard output. A program's `main` calls it.
@@ -21,7 +21,9 @@ mod words;
 
 pub use asked::{Asked, Form, asked_of};
 pub use faults::SweepFault;
-pub use keys::{FRAMES_LIMITS, PAGE_RATE_LIMITS, SWAP_LIMITS, SweptKey, TAX_LIMITS};
+pub use keys::{
+    FRAMES_LIMITS, PAGE_RATE_LIMITS, REBALANCE_LIMITS, SWAP_LIMITS, SweptKey, TAX_LIMITS,
+};
 pub use law::law_words;
 pub use line::LINE;
 pub use program::{status, status_for, vmsweep};

@@ -2,16 +2,17 @@
 use Rattle.std.proofs.Common.{◌≡◌, ◌∙◌, ℕ, zero, suc, ◌+◌, ◌<◌, List, [], ◌∷◌, ◌++◌, Option, Some, None, fold, length, sym, refl, ap, subst, arith}
 use Rattle.std.specs.Option.{option_map}
 use Rattle.std.proofs.lemmas.List.{length-map}
-use Rattle.vm_guest.specs.Boundary.{released}
+use Rattle.vm_guest.specs.Boundary.{released, revoked}
 use Rattle.vm_guest.specs.Record.{GuestRecord}
-use Rattle.vm_pool.specs.Changes.{AreReleasable, granted_at, surplus_of, with_released}
+use Rattle.vm_pool.specs.Changes.{AreReleasable, changed, granted_at, surplus_of, with_released}
 use Rattle.vm_pool.specs.CanMove.{CanGrant, CanRevoke}
 use Rattle.vm_pool.specs.Guests.{Guests, each_released, guest_changed, guest_in, sum_of}
 use Rattle.vm_pool.specs.Pool.{PoolView}
 use Rattle.vm_plan.specs.declared.state.State.{State}
 use Rattle.vm_plan.specs.Paging.{page_count_of}
-use Rattle.vm_reclaim.specs.Boundary.{CanCarryOut, CanGiveUp, carried_out, given_up, plan_of, pool_reclaimed, pool_settled, with_paging}
+use Rattle.vm_reclaim.specs.Boundary.{CanCarryOut, CanGiveUp, carried_out, given_up, plan_of, pool_balanced, pool_reclaimed, pool_settled, with_paging, with_rises}
 use Rattle.vm_reclaim.specs.Policy.{Policy}
+use Rattle.vm_reclaim.specs.Rebalance.{rebalances_in}
 use Rattle.vm_reclaim.specs.Reclaim.{counts_of, grants_in, paged_from, pool_revoked, revocations_in}
 use Rattle.vm_reclaim.specs.Rows.{row_at}
 use Rattle.vm_reclaim.proofs.DropLemmas.{append-one}
@@ -118,17 +119,22 @@ given-is policy state pool =
     let fallen = pool_revoked policy state pool in
     given-all fallen (counts_of state policy.page_rate fallen.guests) (length-paging state policy.page_rate fallen.guests)
 
-pub settled-is : (policy : Policy) (state : State) (pool : PoolView) → carried_out (plan_of policy state pool) pool ≡ pool_settled policy state pool
-settled-is policy state pool = ap (λ (p : PoolView). fold granted_at p (grants_in policy state (pool_reclaimed policy state pool))) (given-is policy state pool)
+risen-is : (policy : Policy) (state : State) (pool : PoolView) → with_rises (plan_of policy state pool) pool ≡ pool_settled policy state pool
+risen-is policy state pool = ap (λ (p : PoolView). fold granted_at p (grants_in policy state (pool_reclaimed policy state pool))) (given-is policy state pool)
+
+pub balanced-is : (policy : Policy) (state : State) (pool : PoolView) → carried_out (plan_of policy state pool) pool ≡ pool_balanced policy state pool
+balanced-is policy state pool = ap (λ (p : PoolView). fold (changed revoked) p (rebalances_in policy state (pool_settled policy state pool))) (risen-is policy state pool)
 
 -- each move of it can be done
 pub can-settle : (policy : Policy) (state : State) (pool : PoolView) → CanRevoke pool (revocations_in policy state pool)
-    → CanGrant (pool_reclaimed policy state pool) (grants_in policy state (pool_reclaimed policy state pool)) → CanCarryOut pool (plan_of policy state pool)
-can-settle policy state pool falls rises =
+    → CanGrant (pool_reclaimed policy state pool) (grants_in policy state (pool_reclaimed policy state pool))
+    → CanRevoke (pool_settled policy state pool) (rebalances_in policy state (pool_settled policy state pool)) → CanCarryOut pool (plan_of policy state pool)
+can-settle policy state pool falls rises moves =
     let fallen = pool_revoked policy state pool in
     let counts = counts_of state policy.page_rate fallen.guests in
     record {
       can_fall = falls;
       can_give_up = can-give-all fallen counts (length-paging state policy.page_rate fallen.guests) (counts-releasable state policy.page_rate fallen.guests);
       can_rise = subst (λ (p : PoolView). CanGrant p (grants_in policy state (pool_reclaimed policy state pool))) (sym (given-is policy state pool)) rises;
+      can_rebalance = subst (λ (p : PoolView). CanRevoke p (rebalances_in policy state (pool_settled policy state pool))) (sym (risen-is policy state pool)) moves;
     }

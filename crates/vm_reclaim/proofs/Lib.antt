@@ -4,6 +4,10 @@ pub mod DropLemmas
 pub mod CanLemmas
 pub mod RowLemmas
 pub mod TakeLemmas
+pub mod FloorLemmas
+pub mod DriverLemmas
+pub mod GivingLemmas
+pub mod BalanceLemmas
 pub mod RoomLemmas
 pub mod PlanningLemmas
 pub mod RestLemmas

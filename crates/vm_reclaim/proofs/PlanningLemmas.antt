@@ -25,6 +25,7 @@ use Rattle.vm_reclaim.specs.declared.lists.Paged.{Paged}
 use Rattle.vm_reclaim.specs.Fairness.{TakesFromCheapest}
 use Rattle.vm_reclaim.specs.Planning.{CanLower, frames_in, if_paged, paged_row, row_counts, waiting_from, waits_row}
 use Rattle.vm_reclaim.specs.Policy.{Policy}
+use Rattle.vm_reclaim.specs.Rebalance.{pool_rebalanced}
 use Rattle.vm_reclaim.specs.Reclaim.{blocked_from, counts_of, if_blocked, paged_from, pool_granted, pool_revoked, revocations_in, blocks_in}
 use Rattle.vm_reclaim.specs.Rows.{idle_row, plan_pool_of, row_at, row_of, rows_of}
 use Rattle.vm_reclaim.proofs.DropLemmas.{append-nil, append-one, told-first}
@@ -202,8 +203,8 @@ all-run rows pool = none-waits 0 rows ∙ sym (none-blocked 0 pool.guests)
 
 -- the guests that are blocked are those that hold more than their targets before anything is granted
 pub blocked-are : (policy : Policy) (state : State) (pool : PoolView)
-    → waiting_from 0 (blocks_in state) (rows_of pool.guests) ≡ blocked_from 0 (with_orders (blocks_in state) (pool_granted policy state pool)).guests
-blocked-are policy High pool = all-run (rows_of pool.guests) (pool_granted policy High pool)
+    → waiting_from 0 (blocks_in state) (rows_of pool.guests) ≡ blocked_from 0 (with_orders (blocks_in state) (pool_rebalanced policy state (pool_granted policy state pool))).guests
+blocked-are policy High pool = all-run (rows_of pool.guests) (pool_rebalanced policy High (pool_granted policy High pool))
 blocked-are policy Soft pool = all-run (rows_of pool.guests) (pool_granted policy Soft pool)
 blocked-are policy Hard pool = all-run (rows_of pool.guests) (pool_granted policy Hard pool)
 blocked-are policy Low pool =

@@ -1,25 +1,29 @@
 -- A boundary at which nothing is taken, and nothing can be granted.
-use Rattle.std.proofs.Common.{◌≡◌, ◌∙◌, ℕ, zero, suc, ◌+◌, ◌-◌, ◌||◌, ◌&&◌, nat_lt, Bool, true, false, List, [], ◌∷◌, Option, Some, None, map, if◌then◌else◌, sym, refl, subst, ap, arith}
-use Rattle.std.proofs.lemmas.Bool.{false≢true, ltb-true}
+use Rattle.std.proofs.Common.{◌≡◌, ◌∙◌, ℕ, zero, suc, ◌+◌, ◌-◌, ◌<◌, ◌≤◌, ◌⊎◌, ◌||◌, ◌&&◌, nat_lt, Bool, true, false, List, [], ◌∷◌, Option, Some, None, fold, map, min, if◌then◌else◌, inl, inr, ⊎_elim, sym, refl, subst, ap, arith}
+use Rattle.std.proofs.lemmas.Bool.{cases_lt, false≢true, lt-ltb, ltb-true}
 use Rattle.std.specs.List.{list_any}
 use Rattle.std.specs.Option.{option_map, option_map_or}
 use Rattle.vm_plan.specs.declared.state.State.{State}
 use Rattle.vm_plan.specs.declared.state.State.TheVariants.{High}
 use Rattle.vm_plan.specs.declared.thresholds.Thresholds.{Thresholds}
 use Rattle.vm_plan.specs.Grants.{Pool, CanGrow, IsGrantList, granted, grant_list, grants_up_to, total_demand}
+use Rattle.vm_plan.specs.Rebalancing.{rebalancing_list}
 use Rattle.vm_plan.specs.Revocation.{revocation_list}
 use Rattle.vm_plan.proofs.Places.{no_grants}
 use Rattle.vm_plan.specs.Row.{Row, ratio_with, wanting_ratios, wants_to_grow}
+use Rattle.vm_pool.specs.Changes.{granted_at}
 use Rattle.vm_pool.specs.Guests.{Guests}
 use Rattle.vm_pool.specs.Pool.{PoolView}
 use Rattle.vm_tax.specs.Offers.{Offer, best_offer, greatest_position, one_further}
 use Rattle.vm_tax.specs.Ratio.{Tax, is_less}
-use Rattle.vm_reclaim.specs.Boundary.{plan_of, pool_reclaimed, CanCarryOut}
+use Rattle.vm_reclaim.specs.Boundary.{plan_of, pool_reclaimed, pool_settled, CanCarryOut}
 use Rattle.vm_reclaim.specs.declared.lists.BoundaryPlan.{BoundaryPlan}
-use Rattle.vm_reclaim.specs.Planning.{paged_row, IsAtRest}
+use Rattle.vm_reclaim.specs.Planning.{paged_row, unmet_in, CanRiseInHigh, IsAtRest}
 use Rattle.vm_reclaim.specs.Policy.{Policy}
+use Rattle.vm_reclaim.specs.Rebalance.{giving_rows, most_moved, on_its_way, rebalances_in, unmet_demand}
 use Rattle.vm_reclaim.specs.Reclaim.{counts_of, paged_from, pool_revoked, revocations_in}
 use Rattle.vm_reclaim.specs.Rows.{plan_pool_of, rows_of}
+use Rattle.vm_reclaim.proofs.BalanceLemmas.{unmet-are}
 use Rattle.vm_reclaim.proofs.PlanningLemmas.{blocked-are, counts-are, none-waits, pool-planned}
 
 -- ---- nothing is taken
@@ -92,30 +96,86 @@ none-granted policy pool none =
     ap (grant_list High policy.thresholds policy.tax) (sym (pool-kept policy pool))
     ∙ no-grants (total_demand (rows_of pool.guests)) policy.thresholds policy.tax (plan_pool_of pool) (none-grow policy.thresholds (plan_pool_of pool) none)
 
+-- where guests can't rise, none can grow
+no-growth : (policy : Policy) (pool : PoolView) → ¬ CanRiseInHigh policy pool → ¬ CanGrow High policy.thresholds (plan_pool_of pool)
+no-growth policy pool none can = none (record { lets = inl can.lets; wants = can.wants })
+
+-- ---- no page moves
+
+satisfied : (demand target most : ℕ) → (nat_lt 0 demand && nat_lt target most) ≡ false → min demand (most - target) ≡ 0
+satisfied demand target most never =
+    ⊎_elim
+    (λ (some : 0 < demand). ⊎_elim
+    (λ (room : target < most). let wants = lt-ltb 0 demand some in let below = lt-ltb target most room in absurd (false≢true (sym never ∙ (λ i. wants i && below i))))
+    (λ (full : most ≤ target). omega (arith, full))
+    (cases_lt target most))
+    (λ (content : demand ≤ 0). omega (arith, content))
+    (cases_lt 0 demand)
+
+none-unmet : (rows : List Row) → list_any wants_to_grow rows ≡ false → unmet_in rows ≡ 0
+none-unmet [] none = refl
+none-unmet (row ∷ rows) none = go (wants_to_grow row) refl none (none-unmet rows)
+  where
+    go : (wants : Bool) → wants_to_grow row ≡ wants → (wants || list_any wants_to_grow rows) ≡ false → (list_any wants_to_grow rows ≡ false → unmet_in rows ≡ 0)
+        → min row.demand (row.cap - row.target) + unmet_in rows ≡ 0
+    go true is never later = absurd (false≢true (sym never))
+    go false is never later = λ i. satisfied row.demand row.target row.cap is i + later never i
+
+most-none : (rebalance : ℕ) (pool : PoolView) → (rebalance ≡ 0) ⊎ (unmet_demand pool ≡ 0) → most_moved rebalance pool ≡ 0
+most-none rebalance pool none = ⊎_elim (nothing-allowed rebalance (unmet_demand pool) (on_its_way pool)) (nothing-wanted rebalance (unmet_demand pool) (on_its_way pool)) none
+  where
+    nothing-allowed : (most wanted coming : ℕ) → most ≡ 0 → min most wanted - coming ≡ 0
+    nothing-allowed most wanted coming is = omega (arith, is)
+
+    nothing-wanted : (most wanted coming : ℕ) → wanted ≡ 0 → min most wanted - coming ≡ 0
+    nothing-wanted most wanted coming is = omega (arith, is)
+
+moves-none : (policy : Policy) (pool : PoolView) → most_moved policy.rebalance pool ≡ 0 → rebalances_in policy High pool ≡ []
+unfolding rebalancing_list
+moves-none policy pool none = ap (λ n. rebalancing_list policy.tax n (giving_rows pool.guests)) none
+
+-- what stays where nothing is granted
+settled-rows : (policy : Policy) (pool : PoolView) → ¬ CanGrow High policy.thresholds (plan_pool_of pool) → rows_of (pool_settled policy High pool).guests ≡ rows_of pool.guests
+settled-rows policy pool none =
+    let reclaimed = pool_reclaimed policy High pool in
+    ap (λ (moves : List ℕ). rows_of (fold granted_at reclaimed moves).guests) (none-granted policy pool none)
+    ∙ sym (ap (λ (p : Pool). p.rows) (pool-kept policy pool))
+
+none-moved : (policy : Policy) (pool : PoolView) → ¬ CanRiseInHigh policy pool → rebalances_in policy High (pool_settled policy High pool) ≡ []
+none-moved policy pool none = moves-none policy settled (most-none policy.rebalance settled (go (list_any wants_to_grow (rows_of pool.guests)) refl))
+  where
+    settled : PoolView
+    settled = pool_settled policy High pool
+
+    go : (wants : Bool) → list_any wants_to_grow (rows_of pool.guests) ≡ wants → (policy.rebalance ≡ 0) ⊎ (unmet_demand settled ≡ 0)
+    go true is = ⊎_elim (λ (some : 0 < policy.rebalance). absurd (none (record { lets = inr some; wants = is }))) (λ (never : policy.rebalance ≤ 0). inl (omega (arith, never))) (cases_lt 0 policy.rebalance)
+    go false is = inr (sym (unmet-are settled.guests) ∙ (ap unmet_in (settled-rows policy pool (no-growth policy pool none)) ∙ none-unmet (rows_of pool.guests) is))
+
 -- ---- the plan
 
 abbrev pub no_plan : BoundaryPlan
-no_plan = record { revoked = []; paged = []; granted = []; blocked = [] }
+no_plan = record { revoked = []; paged = []; granted = []; rebalanced = []; blocked = [] }
 
-plan-is-nothing : (policy : Policy) (pool : PoolView) → ¬ CanGrow High policy.thresholds (plan_pool_of pool) → no_plan ≡ plan_of policy High pool
+plan-is-nothing : (policy : Policy) (pool : PoolView) → ¬ CanRiseInHigh policy pool → no_plan ≡ plan_of policy High pool
 plan-is-nothing policy pool none =
     let reclaimed = pool_reclaimed policy High pool in
+    let moved = none-moved policy pool none in
     let revoked = none-revoked policy pool in
     let paged = none-paged 0 policy.page_rate (pool_revoked policy High pool).guests in
-    let granted = none-granted policy pool none in
+    let granted = none-granted policy pool (no-growth policy pool none) in
     let blocked = sym (none-waits 0 (rows_of reclaimed.guests)) ∙ blocked-are policy High reclaimed in
-    λ i. record { revoked = sym revoked i; paged = sym paged i; granted = sym granted i; blocked = blocked i }
+    λ i. record { revoked = sym revoked i; paged = sym paged i; granted = sym granted i; rebalanced = sym moved i; blocked = blocked i }
 
-pub plan-at-rest : (policy : Policy) (state : State) (pool : PoolView) → IsAtRest policy.thresholds state pool → no_plan ≡ plan_of policy state pool
+pub plan-at-rest : (policy : Policy) (state : State) (pool : PoolView) → IsAtRest policy state pool → no_plan ≡ plan_of policy state pool
 plan-at-rest policy state pool rest = subst (λ (s : State). no_plan ≡ plan_of policy s pool) (sym rest.0) (plan-is-nothing policy pool rest.1)
 
-pub grants-at-rest : (policy : Policy) (state : State) (pool : PoolView) → IsAtRest policy.thresholds state pool
+pub grants-at-rest : (policy : Policy) (state : State) (pool : PoolView) → IsAtRest policy state pool
     → IsGrantList state policy.thresholds policy.tax (plan_pool_of (pool_reclaimed policy state pool)) []
 grants-at-rest policy state pool rest =
     let t = policy.thresholds in
     subst (λ (s : State). IsGrantList s t policy.tax (plan_pool_of (pool_reclaimed policy s pool)) []) (sym rest.0)
     (subst (λ (p : Pool). IsGrantList High t policy.tax p []) (pool-kept policy pool)
-    (no_grants High t policy.tax (plan_pool_of pool) rest.1))
+    (no_grants High t policy.tax (plan_pool_of pool) (no-growth policy pool rest.1)))
 
 pub can-do-nothing : (pool : PoolView) (plan : BoundaryPlan) → plan ≡ no_plan → CanCarryOut pool plan
-can-do-nothing pool plan is = subst (λ (plan : BoundaryPlan). CanCarryOut pool plan) (sym is) (record { can_fall = tt; can_give_up = tt; can_rise = tt })
+can-do-nothing pool plan is = subst (λ (plan : BoundaryPlan). CanCarryOut pool plan) (sym is) (record { can_fall = tt; can_give_up = tt; can_rise = tt; can_rebalance = tt })

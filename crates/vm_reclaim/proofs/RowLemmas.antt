@@ -45,7 +45,7 @@ rows_changed change change_row guests k g here same =
 
 -- ---- grants
 
-grant_guest : (guests : Guests) (k : ℕ) → IsSomeAnd (slice_get (rows_of guests) k) (λ row. 0 < row.demand) → (g : GuestRecord) × (guest_in guests k ≡ Some g)
+pub grant_guest : (guests : Guests) (k : ℕ) → IsSomeAnd (slice_get (rows_of guests) k) (λ row. 0 < row.demand) → (g : GuestRecord) × (guest_in guests k ≡ Some g)
 grant_guest [] k some = absurd some
 grant_guest (None ∷ guests) zero some = absurd (omega (arith, some))
 grant_guest (Some g ∷ guests) zero some = (g, refl)
@@ -66,7 +66,7 @@ few_frames g = go (is_full g)
     go true = omega arith
     go false = omega arith
 
-pool_granted_at : (pool : PoolView) (k : ℕ) (g : GuestRecord) → guest_in pool.guests k ≡ Some g → granted_pool (plan_pool_of pool) k ≡ plan_pool_of (granted_at pool k)
+pub pool_granted_at : (pool : PoolView) (k : ℕ) (g : GuestRecord) → guest_in pool.guests k ≡ Some g → granted_pool (plan_pool_of pool) k ≡ plan_pool_of (granted_at pool k)
 pool_granted_at pool k g here =
     let row = row_here pool.guests k g here in
     let frames : option_map_or (λ (r : Row). if r.held == r.target then 1 else 0) (slice_get (rows_of pool.guests) k) 0 ≡ frames_to_grant (guest_in pool.guests k) =

@@ -8,6 +8,7 @@ use Rattle.vm_pool.specs.Pool.{PoolView, guest_at}
 use Rattle.vm_reclaim.specs.declared.lists.BoundaryPlan.{BoundaryPlan}
 use Rattle.vm_reclaim.specs.declared.lists.Paged.{Paged}
 use Rattle.vm_reclaim.specs.Policy.{Policy}
+use Rattle.vm_reclaim.specs.Rebalance.{pool_rebalanced, rebalances_in}
 use Rattle.vm_reclaim.specs.Reclaim.{blocked_from, counts_of, grants_in, paged_from, pool_granted, pool_paged, pool_revoked, revocations_in, blocks_in}
 
 -- ---- what is planned: each list is that of the frames as those before it leave them
@@ -20,12 +21,17 @@ pool_reclaimed policy state pool = pool_paged policy state (pool_revoked policy 
 abbrev pub pool_settled : Policy → State → PoolView → PoolView
 pool_settled policy state pool = pool_granted policy state (pool_reclaimed policy state pool)
 
+-- and once they fell for guests that would pay more
+abbrev pub pool_balanced : Policy → State → PoolView → PoolView
+pool_balanced policy state pool = pool_rebalanced policy state (pool_settled policy state pool)
+
 abbrev pub plan_of : Policy → State → PoolView → BoundaryPlan
 plan_of policy state pool = record {
   revoked = revocations_in policy state pool;
   paged = paged_from 0 (counts_of state policy.page_rate (pool_revoked policy state pool).guests);
   granted = grants_in policy state (pool_reclaimed policy state pool);
-  blocked = blocked_from 0 (with_orders (blocks_in state) (pool_settled policy state pool)).guests;
+  rebalanced = rebalances_in policy state (pool_settled policy state pool);
+  blocked = blocked_from 0 (with_orders (blocks_in state) (pool_balanced policy state pool)).guests;
 }
 
 -- ---- how it is carried out
@@ -43,8 +49,12 @@ abbrev pub with_paging : BoundaryPlan → PoolView → PoolView
 with_paging plan pool = fold given_up (with_falls plan pool) plan.paged
 
 -- and once targets rose
+abbrev pub with_rises : BoundaryPlan → PoolView → PoolView
+with_rises plan pool = fold granted_at (with_paging plan pool) plan.granted
+
+-- and once they fell for guests that would pay more
 abbrev pub carried_out : BoundaryPlan → PoolView → PoolView
-carried_out plan pool = fold granted_at (with_paging plan pool) plan.granted
+carried_out plan pool = fold (changed revoked) (with_rises plan pool) plan.rebalanced
 
 -- ---- which plans can be
 
@@ -63,3 +73,4 @@ pub record CanCarryOut (pool : PoolView) (plan : BoundaryPlan) : Type 0 where
   pub can_fall : CanRevoke pool plan.revoked
   pub can_give_up : CanGiveUp (with_falls plan pool) plan.paged
   pub can_rise : CanGrant (with_paging plan pool) plan.granted
+  pub can_rebalance : CanRevoke (with_rises plan pool) plan.rebalanced

@@ -2,6 +2,7 @@ pub mod Policy
 pub mod Numbers
 pub mod Rows
 pub mod Reclaim
+pub mod Rebalance
 pub mod Room
 pub mod Making
 pub mod Planning

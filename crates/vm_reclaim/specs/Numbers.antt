@@ -5,4 +5,4 @@ use Rattle.vm_tax.specs.Ratio.{hundredths}
 
 -- the policy by these numbers
 abbrev pub policy_in : Numbers → Policy
-policy_in n = record { tax = hundredths n.tax; thresholds = n.thresholds; page_rate = n.page_rate }
+policy_in n = record { tax = hundredths n.tax; thresholds = n.thresholds; page_rate = n.page_rate; rebalance = n.rebalance }

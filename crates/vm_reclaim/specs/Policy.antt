@@ -12,6 +12,8 @@ pub record Policy : Type 0 where
   pub thresholds : Thresholds
   -- the most frames that a guest gives up by paging in a boundary
   pub page_rate : ℕ
+  -- the most pages that move from guest to guest at a boundary (section 6.3)
+  pub rebalance : ℕ
 
 -- the policy of a machine that is set up in hundredths of a percent, as each host's is
 abbrev pub policy_of : MachineConfig → Policy
@@ -19,6 +21,7 @@ policy_of m = record {
   tax = hundredths m.tax;
   thresholds = thresholds_of 10000 m.frames m.percent;
   page_rate = m.page_rate;
+  rebalance = m.rebalance;
 }
 
 -- the policy of a machine that is set up in whole percents
@@ -27,4 +30,5 @@ policy_by_percents m = record {
   tax = percents m.tax;
   thresholds = thresholds_of 100 m.frames m.percent;
   page_rate = m.page_rate;
+  rebalance = m.rebalance;
 }

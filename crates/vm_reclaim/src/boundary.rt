@@ -8,8 +8,8 @@ ghost use Rattle.vm_plan.specs.Revocation.{revoked_row, rows_after, IsRevocable}
 ghost use Rattle.vm_plan.specs.Row.{change_at};
 ghost use Rattle.vm_pool.specs.Changes.{changed};
 ghost use Rattle.vm_pool.specs.Pool.{total_held, EachGuest};
-ghost use Rattle.vm_reclaim.specs.Boundary.{carried_out, plan_of, pool_reclaimed, pool_settled, CanCarryOut};
-ghost use Rattle.vm_reclaim.specs.Fairness.{IsAtMinimum, TakesFromCheapest};
+ghost use Rattle.vm_reclaim.specs.Boundary.{carried_out, plan_of, pool_balanced, pool_reclaimed, pool_settled, CanCarryOut};
+ghost use Rattle.vm_reclaim.specs.Fairness.{GivesFromCheapest, IsAtMinimum, TakesFromCheapest};
 ghost use Rattle.vm_reclaim.specs.Numbers.{policy_in};
 ghost use Rattle.vm_reclaim.specs.Planning.{frames_in, if_paged, paged_row, row_counts, waiting_from, waits_row, CanLower};
 ghost use Rattle.vm_reclaim.specs.Reclaim.{if_blocked, paged_from, pool_revoked, revocations_in, blocks_in, wanted_in};
@@ -18,6 +18,7 @@ ghost use Rattle.vm_tax.specs.Ratio.{hundredths};
 
 use crate::lists::{Blocked, BoundaryPlan, Paged, Paging};
 use crate::policy::Numbers;
+use crate::rebalance::plan_rebalancing;
 use crate::reclaim::blocks_in;
 use crate::rest::{is_at_rest, nothing};
 use crate::rows::rows_of;
@@ -169,8 +170,8 @@ fn blocked_of(alloc: Global, state: State, rows: &[PlanRow]) -> Result<Blocked, 
 }
 
 /// What a boundary is to take from its guests and give them (Waldspurger, OSDI 2002, sections 5.1, 5.2 and 6.3): targets fall, then
-/// guests give up frames, then targets rise, and at last some guests are blocked. All of it is found before the first move, each list
-/// from the frames as the lists before it will leave them.
+/// guests give up frames, then targets rise, then some fall for guests that would pay more, and at last some guests are blocked. All of
+/// it is found before the first move, each list from the frames as the lists before it will leave them.
 ///
 /// Targets fall by as many pages as frames are missing to the goal, beside those free and those that guests hold above their targets
 /// (min-funding revocation); in High by none. A guest gives up at most the page rate, and no more than it holds above its target; in
@@ -179,8 +180,13 @@ fn blocked_of(alloc: Global, state: State, rows: &[PlanRow]) -> Result<Blocked, 
 /// more are free than the next lower threshold and the guest outbids the others, in Low never. In Low guests that hold more than their
 /// targets are blocked.
 ///
-/// The cost is a few steps for each guest, and a logarithm of their number for each page. In High, where no guest that wants to grow may,
-/// guests are at most asked whether they want to. The only error is a want of memory, where there is a guest, running or not.
+/// In High idle memory moves: pages of targets that guests don't use go to guests that would pay more for them, at most as many as
+/// the numbers say, and no more than guests want beside the frames that balloons have still to return. No target rises for them
+/// here: what balloons return is free at later boundaries, and is granted then.
+///
+/// The cost is a few steps for each guest, and a logarithm of their number for each page. In High, where no guest that wants to grow may
+/// and no page may move, guests are at most asked whether they want to. The only error is a want of memory, where there is a guest,
+/// running or not.
 pub fn plan_boundary(
     alloc: Global,
     numbers: &Numbers,
@@ -192,7 +198,7 @@ pub fn plan_boundary(
 
     // Each move can be done in its turn, and together they do what the state asks for.
     ensures can { IfOk result (CanCarryOut pool.now) }
-    ensures done { IfOk result (λ plan. carried_out plan pool.now ≡ pool_settled (policy_in numbers.now) state pool.now) }
+    ensures done { IfOk result (λ plan. carried_out plan pool.now ≡ pool_balanced (policy_in numbers.now) state pool.now) }
 
     // Each page of a target that is taken is that of a guest above its minimum whose adjusted ratio is least then.
     ensures taken_fairly { IfOk result
@@ -205,6 +211,11 @@ pub fn plan_boundary(
     // Each page that is granted goes to the guest that offers most while the conditions hold, and the list ends only where they don't.
     ensures granted_fairly { let guests = plan_pool_of (pool_reclaimed (policy_in numbers.now) state pool.now) in
         IfOk result (λ plan. IsGrantList state numbers.now.thresholds (hundredths numbers.now.tax) guests plan.granted) }
+
+    // Each page that moves is given by a guest above its minimum and above what it uses, whose adjusted ratio is least then of those that
+    // are. Who pays most for it counts as having it.
+    ensures rebalanced_fairly { let guests = (pool_settled (policy_in numbers.now) state pool.now).guests in
+        IfOk result (λ plan. GivesFromCheapest (hundredths numbers.now.tax) guests plan.rebalanced) }
     ensures memory { IfErr result (λ _. 0 < length pool.now.guests) }
 {
     if is_at_rest(numbers, pool, state) {
@@ -222,10 +233,12 @@ pub fn plan_boundary(
         &rows,
     )?;
     let blocked = blocked_of(alloc, state, &rows)?;
+    let rebalanced = plan_rebalancing(alloc, numbers, pool, state, &granted, &mut rows)?;
     Ok(BoundaryPlan {
         revoked,
         paged,
         granted,
+        rebalanced,
         blocked,
     })
 }

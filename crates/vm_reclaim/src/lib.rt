@@ -2,9 +2,10 @@
 //!
 //! For a command that needs frames at once, [`make_room`] takes them: what guests hold above their targets first, then a page at a
 //! time from the guest whose memory is worth least. At a boundary of epochs [`plan_boundary`] finds what the state of the host
-//! asks for, whose targets fall and rise, who gives up frames and who is blocked, and [`carry_out`] does it. The rules are
-//! those of Waldspurger, "Memory Resource Management in VMware ESX Server" (OSDI 2002), sections 5.1, 5.2 and 6.3, in this project's
-//! profile; `vm_plan` decides by them from plain rows, and this crate makes the rows, and does to the pool what was decided.
+//! asks for, whose targets fall and rise, who gives up frames, who gives idle memory to others and who is blocked, and [`carry_out`]
+//! does it. The rules are those of Waldspurger, "Memory Resource Management in VMware ESX Server" (OSDI 2002), sections 5.1, 5.2 and
+//! 6.3, in this project's profile; `vm_plan` decides by them from plain rows, and this crate makes the rows, and does to the pool what
+//! was decided.
 //!
 //! What admission control (section 6.2) covers can be had: [`law_room`].
 #![tactic(auto)]
@@ -13,6 +14,7 @@ mod boundary;
 mod law;
 mod lists;
 mod policy;
+mod rebalance;
 mod reclaim;
 mod rest;
 mod room;

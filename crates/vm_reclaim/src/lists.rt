@@ -81,6 +81,8 @@ pub struct BoundaryPlan {
     pub paged: Paging,
     /// The positions of the guests whose targets rise, one for each page, in order.
     pub granted: Plan,
+    /// The positions of the guests whose targets fall for guests that would pay more, one for each page, in order.
+    pub rebalanced: Plan,
     /// The positions of the guests that are blocked then, in order.
     pub blocked: Blocked,
 }

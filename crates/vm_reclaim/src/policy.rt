@@ -12,5 +12,7 @@ pub struct Numbers {
     pub thresholds: Thresholds,
     /// The most frames that a guest gives up by paging in a boundary.
     pub page_rate: u32,
+    /// The most pages that move from guest to guest at a boundary (section 6.3). With 0 none does.
+    pub rebalance: u32,
     ghost part_taxed: { tax ≤ 9999 },
 }

@@ -1,5 +1,5 @@
-//! What a host does about its guests' memory once it is planned: targets fall, guests give up frames, targets rise, and some guests
-//! are blocked.
+//! What a host does about its guests' memory once it is planned: targets fall, guests give up frames, targets rise, some fall for
+//! guests that would pay more, and some guests are blocked.
 ghost use Rattle.std.specs.Prelude.{◌≡◌, fold};
 ghost use Rattle.vm_guest.specs.Boundary.{revoked};
 ghost use Rattle.vm_pool.specs.Changes.{changed, granted_at};
@@ -23,6 +23,7 @@ pub fn numbers_of(spec: &MachineSpec) -> Numbers
         tax: spec.tax,
         thresholds: Thresholds::of(spec.frames, spec.percent),
         page_rate: spec.page_rate,
+        rebalance: spec.rebalance,
     }
 }
 
@@ -58,11 +59,11 @@ fn grant_all(pool: &mut Pool, plan: &Plan)
     }
 }
 
-/// Targets fall, guests give up frames, and targets rise, as a plan says (Waldspurger, OSDI 2002, sections 5.1, 5.2 and 6.3). It takes
-/// no memory.
+/// Targets fall, guests give up frames, targets rise, and some fall for guests that would pay more, as a plan says (Waldspurger, OSDI
+/// 2002, sections 5.1, 5.2 and 6.3). It takes no memory.
 ///
 /// A guest gives up its spares first, then pages that go to swap; a frame that is granted goes to a guest only where it has none above
-/// its target.
+/// its target. No frame moves where targets fall.
 pub fn carry_out(pool: &mut Pool, plan: &BoundaryPlan)
     requires { CanCarryOut pool.old plan.now }
     ensures { pool.new ≡ carried_out plan.now pool.old }
@@ -70,6 +71,7 @@ pub fn carry_out(pool: &mut Pool, plan: &BoundaryPlan)
     revoke_all(pool, &plan.revoked);
     give_up_all(pool, plan.paged.as_slice());
     grant_all(pool, &plan.granted);
+    revoke_all(pool, &plan.rebalanced);
 }
 
 /// Whether a guest that holds more than its target is blocked: in Low alone (Waldspurger, OSDI 2002, section 6.3).

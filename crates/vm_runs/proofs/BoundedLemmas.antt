@@ -22,7 +22,9 @@ use Rattle.vm_pool.specs.Changes.{all_changed, started_at, with_min_at, with_sta
 use Rattle.vm_pool.specs.Guests.{each_changed}
 use Rattle.vm_pool.specs.Pool.{PoolView, EachGuest}
 use Rattle.vm_reclaim.specs.declared.room.Raise.{Raise}
+use Rattle.vm_reclaim.specs.Boundary.{pool_balanced}
 use Rattle.vm_reclaim.specs.Policy.{Policy}
+use Rattle.vm_reclaim.specs.Rebalance.{rebalances_in}
 use Rattle.vm_reclaim.specs.Reclaim.{counts_of, grants_in, pool_granted, pool_paged, pool_revoked, revocations_in, blocks_in}
 use Rattle.vm_reclaim.specs.Room.{lacking_at, needed_to_start, raise_to, room_made, surplus_counts, revocations_for_room, with_surplus_back}
 use Rattle.vm_runs.proofs.HistoryLemmas.{length-all, one_set, past}
@@ -139,16 +141,19 @@ opened_boundary-told w h sound known =
     }
 
 reclaimed-told : (policy : Policy) (state : State) (pool : PoolView) (h : History) → IsTold pool h
-    → EachGuest HasNothingPosted (pool_granted policy state (pool_paged policy state (pool_revoked policy state pool)))
-    × AreAll IsWrittenBy (pool_granted policy state (pool_paged policy state (pool_revoked policy state pool))).guests h
+    → EachGuest HasNothingPosted (pool_balanced policy state pool) × AreAll IsWrittenBy (pool_balanced policy state pool).guests h
 reclaimed-told policy state pool h told =
     let revoked_pool = pool_revoked policy state pool in
     let paged_pool = pool_paged policy state revoked_pool in
     let revocations = revocations_in policy state pool in
     let counts = counts_of state policy.page_rate revoked_pool.guests in
-    let grants = grants_in policy state paged_pool in (
-      served-all_granted grants paged_pool (served-released counts revoked_pool (served-all_revoked revocations pool told.served)),
-      told-all_granted grants paged_pool h (told-released counts revoked_pool h (told-all_revoked revocations pool h told.written)),
+    let grants = grants_in policy state paged_pool in
+    let granted_pool = pool_granted policy state paged_pool in
+    let rebalances = rebalances_in policy state granted_pool in
+    let served = served-all_granted grants paged_pool (served-released counts revoked_pool (served-all_revoked revocations pool told.served)) in
+    let written = told-all_granted grants paged_pool h (told-released counts revoked_pool h (told-all_revoked revocations pool h told.written)) in (
+      served-all_revoked rebalances granted_pool served,
+      told-all_revoked rebalances granted_pool h written,
     )
 
 -- what is true of a host once its guests were given their orders
@@ -161,14 +166,14 @@ pub bounded-given : (policy : Policy) (w : World) (lines : List (List ℕ)) (h :
     → IsGiven (past_boundary_by policy w lines) (history_by policy w lines h)
 bounded-given policy w lines h sound known =
     let found = settled policy w lines in
-    let granted_pool = pool_granted policy found.state (pool_paged policy found.state (pool_revoked policy found.state found.pool)) in
+    let balanced_pool = pool_balanced policy found.state found.pool in
     let blocks = blocks_in found.state in
     let after = history_by policy w lines h in
     let last = reclaimed-told policy found.state found.pool after (lines-told policy lines (opened_boundary w) (history_after_service (guests_of w) h) (opened_boundary-told w h sound known)) in
     record {
-      served = served-orders blocks granted_pool last.0;
-      no_reads = no_reads-orders blocks granted_pool;
-      written = told-orders blocks granted_pool after last.1;
+      served = served-orders blocks balanced_pool last.0;
+      no_reads = no_reads-orders blocks balanced_pool;
+      written = told-orders blocks balanced_pool after last.1;
     }
 
 pub given-ordered : (w : World) (h : History) → IsSoundWorld w → IsGiven w h → AreAll IsOrdered (guests_of w) h

@@ -5,6 +5,8 @@ use Rattle.std.specs.Prelude.{codes}
 use Rattle.vm_board.specs.Rounds.{draw, Entry}
 use Rattle.vm_board.proofs.Rounds.{each_all}
 use Rattle.vm_plan.specs.Grants.{grants_up_to}
+use Rattle.vm_plan.specs.Rebalancing.{rebalancing_list}
+use Rattle.vm_reclaim.specs.Rebalance.{has_own_driver}
 use Rattle.vm_plan.specs.Revocation.{revocation_list}
 use Rattle.vm_commands.specs.Lines.{command_of, command_of_words, domain_command}
 use Rattle.vm_balloon.specs.Service.{distinct}
@@ -34,12 +36,14 @@ one_domain = record {
     seed = 0;
     stream = 0;
     tell = false;
+    own_driver = true;
+    page = 4;
     trace = Idle ∷ [];
   };
 } ∷ []
 
 abbrev one_frame : MachineConfig
-one_frame = record { frames = 1; swap = 0; overhead = 0; tax = 0; percent = record { high = 0; soft = 0; hard = 0; low = 0 }; page_rate = 1 }
+one_frame = record { frames = 1; swap = 0; overhead = 0; tax = 0; percent = record { high = 0; soft = 0; hard = 0; low = 0 }; page_rate = 1; rebalance = 0; page = 4 }
 
 -- the guest starts at the first boundary
 abbrev first_lines : ℕ → List (List ℕ)
@@ -64,6 +68,8 @@ within = each_all (λ (d : Domain). IsWithinLimits d.config) one_domain (
     short_quantum = omega arith;
     seed_fits = omega arith;
     stream_fits = omega arith;
+    page_from = omega arith;
+    page_to = omega arith;
     short_trace = omega arith;
     steps = each_all (IsWithin 1) (Idle ∷ []) (tt, tt);
     bounded = each_all IsStep (Idle ∷ []) (record { page = tt; bytes = tt }, tt);
@@ -91,12 +97,12 @@ differ : (a b : ℕ) → a ≡ 0 → b ≡ 1 → a ≢ b
 differ a b none one same = omega arith
 
 not_the_same : (next_round run held).host ≢ host_left run 2
-unfolding grants_up_to revocation_list command_of command_of_words domain_command distinct
+unfolding grants_up_to rebalancing_list has_own_driver revocation_list command_of command_of_words domain_command distinct
 not_the_same same = differ (place (guests_of (next_round run held).host)) (place (guests_of (host_left run 2))) refl refl (ap (λ (w : World). place (guests_of w)) same)
 
 module _ (is_over : List (Entry GuestRecord) → Bool) (while_held : GoesOnWhileHeld is_over) where
   goes-on : core_after is_over run events ≡ next_round run held
-  unfolding grants_up_to revocation_list command_of command_of_words domain_command
+  unfolding grants_up_to rebalancing_list has_own_driver revocation_list command_of command_of_words domain_command
   goes-on =
       ap (λ b. core_after_two (cond (b && true) (next_round run (first_core run)) (first_core run))) (while_held.all_are_done [] refl)
       ∙ ap (λ b. cond (b && true) (next_round run held) held) (while_held.one_is_held held.round 0 refl)
@@ -116,6 +122,9 @@ module _ (is_over : List (Entry GuestRecord) → Bool) (while_held : GoesOnWhile
       falling = record { high = omega arith; soft = omega arith; hard = omega arith; low = omega arith };
       some_paging = omega arith;
       slow_paging = omega arith;
+      few_moves = omega arith;
+      page_from = omega arith;
+      page_to = omega arith;
     };
     domains = one_domain;
     limits = within;

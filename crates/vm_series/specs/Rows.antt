@@ -40,6 +40,8 @@ rows_before c k = map (row_of c) (range_with_len 0 k)
 pub record Rows : Type 0 where
   -- the machine's frames
   pub frames : ℕ
+  -- how many KiB a page stands for
+  pub page : ℕ
   -- the domains, by position
   pub names : List (List ℕ)
   -- one row for each epoch
@@ -47,4 +49,9 @@ pub record Rows : Type 0 where
 
 -- the rows of the run of a configuration
 abbrev pub rows_of : Config → Rows
-rows_of c = record { frames = c.machine.frames; names = names_of c.domains; rows = rows_before c c.epochs }
+rows_of c = record {
+  frames = c.machine.frames;
+  page = c.machine.page;
+  names = names_of c.domains;
+  rows = rows_before c c.epochs;
+}

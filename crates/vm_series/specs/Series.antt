@@ -10,6 +10,7 @@ use Rattle.vm_drawing.specs.declared.scale.Axis.{Axis}
 use Rattle.vm_series.specs.declared.samples.Measure.TheVariants.{State, Free, Target, Total}
 use Rattle.vm_series.specs.declared.samples.Pages.TheVariants.{SwappedOut, Ballooned}
 use Rattle.vm_drawing.specs.Counts.{counted}
+use Rattle.vm_drawing.specs.Page.{page_words}
 use Rattle.vm_drawing.specs.Drawing.{Chart, Curve, Drawing, level_curve}
 use Rattle.vm_series.specs.Samples.{samples}
 
@@ -59,7 +60,7 @@ page_chart rows = record {
 unfoldable pub note_of : Rows → List ℕ
 note_of s =
     counted (length s.rows) (codes "epoch") ++ (codes ", " ++ (counted (length s.names) (codes "guest") ++ (codes ", "
-    ++ (counted s.frames (codes "frame") ++ codes "; a frame and a page have 4096 bytes"))))
+    ++ (counted s.frames (codes "frame") ++ (codes "; " ++ page_words s.page)))))
 
 -- an epoch begins at its place
 abbrev pub epoch_axis : ℕ → Axis

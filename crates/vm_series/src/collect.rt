@@ -18,6 +18,13 @@ fn name_at(host: &Host, position: usize) -> &str
     host.name(position).unwrap_or("")
 }
 
+// How many KiB a page of the host stands for.
+fn page_of(host: &Host) -> u32
+    ensures { result ≡ host.now.machine.page }
+{
+    host.machine().page
+}
+
 // The names of the domains, by position.
 fn names_of(alloc: Global, host: &Host) -> Result<Vec<String>, AllocError>
     ensures { IfOk result (λ names. map string_bytes names.items ≡ host.now.names) }
@@ -80,9 +87,10 @@ fn series_of<RT: Threads + Sync, G: Gate + Sync>(
     ensures memory { IfErr result (λ error. error ≡ Memory) }
 {
     let frames = run.host().frames();
+    let page = page_of(run.host());
     let names = names_of(alloc, run.host())?;
     let rows = run_all(rt, alloc, gate, workers, run)?;
-    Ok(Series::new(frames, names, rows))
+    Ok(Series::new(frames, page, names, rows))
 }
 
 /// Runs the configuration that a text is, and keeps what is seen of the host after each epoch: its state, its free frames, and its

@@ -102,6 +102,7 @@ impl EpochRow {
 #[derive(Debug, Drop)]
 pub struct Series {
     frames: u32,
+    page: u32,
     names: Vec<String>,
     rows: Vec<EpochRow>,
 }
@@ -112,15 +113,16 @@ impl Model for Series {
 
     ghost Value = { Rows };
 
-    ghost view = { λ s. record { frames = s.frames; names = map string_bytes s.names.items; rows = s.rows.items } };
+    ghost view = { λ s. record { frames = s.frames; page = s.page; names = map string_bytes s.names.items; rows = s.rows.items } };
 }
 
 impl Series {
-    pub(crate) fn new(frames: u32, names: Vec<String>, rows: Vec<EpochRow>) -> Self
-        ensures { result ≡ record { frames = frames; names = map string_bytes names.items; rows = rows.items } }
+    pub(crate) fn new(frames: u32, page: u32, names: Vec<String>, rows: Vec<EpochRow>) -> Self
+        ensures { result ≡ record { frames = frames; page = page; names = map string_bytes names.items; rows = rows.items } }
     {
         Series {
             frames,
+            page,
             names,
             rows,
         }
@@ -131,6 +133,13 @@ impl Series {
         ensures { result ≡ self.now.frames }
     {
         self.frames
+    }
+
+    /// How many KiB a page stands for.
+    pub fn page(&self) -> u32
+        ensures { result ≡ self.now.page }
+    {
+        self.page
     }
 
     /// The names of the domains, by position.

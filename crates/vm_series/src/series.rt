@@ -12,7 +12,7 @@ ghost use Rattle.vm_series.specs.Series.{drawing_of, epoch_axis, free_chart, not
 use crate::rows::{EpochRow, Series};
 use crate::samples::{Measure, Pages, has_values, samples};
 use std::alloc::{AllocError, Global};
-use vm_drawing::{Axis, Chart, Curve, Drawing, counted, draw};
+use vm_drawing::{Axis, Chart, Curve, Drawing, counted, draw, page_words};
 use vm_plan::State;
 
 fn name_at(names: &[String], position: usize) -> &str
@@ -131,7 +131,8 @@ fn note_of(alloc: Global, series: &Series) -> Result<String, AllocError>
     let epochs = counted(alloc, series.rows().len(), "epoch")?;
     let guests = counted(alloc, series.names().len(), "guest")?;
     let frames = counted(alloc, series.frames() as usize, "frame")?;
-    format!(in alloc; "{epochs}, {guests}, {frames}; a frame and a page have 4096 bytes")
+    let page = page_words(alloc, series.page())?;
+    format!(in alloc; "{epochs}, {guests}, {frames}; {page}")
 }
 
 fn charts_of(alloc: Global, series: &Series) -> Result<Vec<Chart>, AllocError>
@@ -169,8 +170,8 @@ fn drawing_of(alloc: Global, series: &Series) -> Result<Drawing, AllocError>
 ///    the configuration, from 1.
 /// 4. The pages of all guests in the swap areas, and in the balloons.
 ///
-/// Epoch e of n goes from the place e to e + 1 of an axis from 0 to n. All is as it stands after the epoch. A page and a frame have
-/// 4096 bytes.
+/// Epoch e of n goes from the place e to e + 1 of an axis from 0 to n. All is as it stands after the epoch. The note says
+/// what a page stands for.
 ///
 /// [`AllocError`] comes only where memory was refused.
 pub fn svg_text(alloc: Global, series: &Series) -> Result<Vec<u8>, AllocError>

@@ -8,7 +8,7 @@ use Rattle.vm_domains.specs.Machine.{MachineConfig}
 use Rattle.vm_guest.specs.Epoch.{epoch}
 use Rattle.vm_guest.specs.Happenings.{Happening, epoch_happenings, reads_by}
 use Rattle.vm_guest.specs.Record.{GuestRecord}
-use Rattle.vm_host.specs.Fairness.{IsFairBoundary}
+use Rattle.vm_host.specs.Fairness.{IsFairBoundary, IsFairRebalancing}
 use Rattle.vm_host.specs.Sound.{IsSoundWorld}
 use Rattle.vm_host.specs.World.{World, guest_at}
 use Rattle.vm_pool.specs.Guests.{Guests, each_changed, guest_in, running}
@@ -17,7 +17,7 @@ use Rattle.vm_runs.specs.Served.{IsServed, LawOfCourse}
 use Rattle.vm_sound.specs.Written.{happenings_at}
 use Rattle.vm_sim.proofs.CourseLemmas.{machine-in}
 use Rattle.vm_sim.specs.Course.{course_of, lines_at, ready_world, world_after}
-use Rattle.vm_sim.specs.Headline.{ConservesFrames, ReadsLastWrites, RevokesFairly, history_ready, reads_of_last_writes, reads_shown}
+use Rattle.vm_sim.specs.Headline.{ConservesFrames, ReadsLastWrites, RebalancesFairly, RevokesFairly, history_ready, reads_of_last_writes, reads_shown}
 
 module _ (c : Config) (is : IsConfig c) (law : LawOfCourse) where
   served : IsServed (course_of c)
@@ -33,6 +33,13 @@ module _ (c : Config) (is : IsConfig c) (law : LawOfCourse) where
   revokes-fairly fair = record {
     boundaries = λ k.
         subst (λ (m : MachineConfig). IsFairBoundary (policy_of m) (world_after c k) (lines_at c k)) (machine-in (course_of c) k)
+        (fair (world_after c k) (lines_at c k) (served.sound k));
+  }
+
+  pub rebalances-fairly : ((w : World) (lines : List (List ℕ)) → IsSoundWorld w → IsFairRebalancing (policy_of w.machine) w lines) → RebalancesFairly c
+  rebalances-fairly fair = record {
+    boundaries = λ k.
+        subst (λ (m : MachineConfig). IsFairRebalancing (policy_of m) (world_after c k) (lines_at c k)) (machine-in (course_of c) k)
         (fair (world_after c k) (lines_at c k) (served.sound k));
   }
 

@@ -4,5 +4,6 @@ pub mod CalendarLemmas
 pub mod CourseLemmas
 pub mod HeadlineLemmas
 pub mod MigrationLemmas
+pub mod RebalanceScaleLemmas
 pub mod SteppingLemmas
 pub mod ReadLineLemmas

@@ -37,7 +37,7 @@ asked-converted w (Ok command) = ap (λ decision. decision >>= (λ position. Ok 
 asked-converted w (Err fault) = refl
 
 line-decision : (w : World) (line : List ℕ) → decision_on_line (converted w) line ≡ decision_on_line w line
-line-decision w line = asked-converted w (command_of line)
+line-decision w line = asked-converted w (command_of w.machine.page line)
 
 module _ (policy : Policy) where
   decided-converted : (w : World) (decision : Result Admitted Refusal) → decided policy (converted w) decision ≡ converted (decided policy w decision)

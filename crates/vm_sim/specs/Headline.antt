@@ -5,7 +5,7 @@ use Rattle.vm_config.specs.declared.config.Config.{Config}
 use Rattle.vm_guest.specs.declared.reads.PageRead.{PageRead}
 use Rattle.vm_guest.specs.Happenings.{Happening, epoch_happenings, reads_by}
 use Rattle.vm_guest.specs.Record.{GuestRecord}
-use Rattle.vm_host.specs.Fairness.{IsFairBoundary}
+use Rattle.vm_host.specs.Fairness.{IsFairBoundary, IsFairRebalancing}
 use Rattle.vm_host.specs.World.{World, Conserves, guest_at}
 use Rattle.vm_reclaim.specs.Policy.{policy_of}
 use Rattle.vm_runs.specs.Course.{history_left}
@@ -20,6 +20,11 @@ pub record ConservesFrames (c : Config) : Type 0 where
 -- each revocation takes from a guest above its minimum whose adjusted ratio of shares to pages is least
 pub record RevokesFairly (c : Config) : Type 0 where
   pub boundaries : (k : ℕ) → IsFairBoundary (policy_of c.machine) (world_after c k) (lines_at c k)
+
+-- each page that moves at a boundary is given by a guest above its minimum and above what it uses, whose adjusted ratio of shares to pages
+-- is least of those that are, where those that take count as having what was given for them
+pub record RebalancesFairly (c : Config) : Type 0 where
+  pub boundaries : (k : ℕ) → IsFairRebalancing (policy_of c.machine) (world_after c k) (lines_at c k)
 
 -- what happened to each guest before epoch k, once the boundary before it is done
 abbrev pub history_ready : Config → ℕ → History

@@ -55,7 +55,8 @@ unfoldable pub boundary_text : ℕ → World → Boundary → List ℕ
 boundary_text k w b =
     codes "epoch " ++ (decimal k ++ (codes "\n" ++ (flat_map (answer_lines w) b.answers
     ++ (state_line b.state b.free ++ (move_lines (codes "revoke") w b.revoked ++ (flat_map (page_line w) b.paged
-    ++ (move_lines (codes "grant") w b.granted ++ flat_map (block_line_at w) b.blocked)))))))
+    ++ (move_lines (codes "grant") w b.granted ++ (move_lines (codes "rebalance") w b.rebalanced
+    ++ flat_map (block_line_at w) b.blocked))))))))
 
 -- ---- one epoch
 

@@ -4,7 +4,7 @@ ghost use Rattle.vm_config.specs.declared.config.Config.{Config};
 ghost use Rattle.vm_config.specs.Limits.{IsConfig};
 ghost use Rattle.vm_config.specs.Migration.{migrated};
 ghost use Rattle.vm_sim.specs.Course.{world_after};
-ghost use Rattle.vm_sim.specs.Headline.{ConservesFrames, ReadsLastWrites, RevokesFairly};
+ghost use Rattle.vm_sim.specs.Headline.{ConservesFrames, ReadsLastWrites, RebalancesFairly, RevokesFairly};
 ghost use Rattle.vm_sim.specs.Migration.{converted, report_by_percents, world_by_percents};
 ghost use Rattle.vm_sim.specs.Report.{report_of};
 
@@ -15,11 +15,13 @@ use vm_runs::law_course;
 /// The run of each configuration, where one worker serves the guests in order: each read gives the bytes that were last written
 /// there (`reads`); frames free, held by guests and set aside for them add up to the machine at each boundary and after each epoch
 /// (`conservation`); each revocation takes from a guest above its minimum whose adjusted ratio of shares to pages is least
-/// (`revocations`).
+/// (`revocations`); and each page that moves at a boundary is given by a guest above its minimum and above what it uses, whose adjusted
+/// ratio is least of those that are (`rebalancing`).
 pub fn law_runs()
     ensures reads { (c : Config) → IsConfig c → ReadsLastWrites c }
     ensures conservation { (c : Config) → IsConfig c → ConservesFrames c }
     ensures revocations { (c : Config) → IsConfig c → RevokesFairly c }
+    ensures rebalancing { (c : Config) → IsConfig c → RebalancesFairly c }
 {
     law_boundary();
     law_course();

@@ -18,10 +18,11 @@ use vm_host::{Boundary, Host};
 /// revoke NAME COUNT         for each guest whose target fell
 /// page NAME COUNT           for each guest that gave up frames
 /// grant NAME COUNT          for each guest whose target rose
+/// rebalance NAME COUNT      for each guest whose target fell for guests that would pay more
 /// block NAME                for each guest that waits
 /// ```
 ///
-/// `revoke` and `grant` have a line for each run of equal positions, and COUNT is how many pages it has. FRAMES are those that were
+/// `revoke`, `grant` and `rebalance` have a line for each run of equal positions, and COUNT is how many pages it has. FRAMES are those that were
 /// free when the state was found. Positions are those of the host's domains.
 #[tactic(auto, unfolding(crate::specs::Report::boundary_text))]
 pub fn boundary_text(
@@ -38,6 +39,7 @@ pub fn boundary_text(
     push_moves(&mut text, "revoke", host, &boundary.revoked)?;
     push_paged(&mut text, host, boundary.paged.as_slice())?;
     push_moves(&mut text, "grant", host, &boundary.granted)?;
+    push_moves(&mut text, "rebalance", host, &boundary.rebalanced)?;
     push_blocked(&mut text, host, boundary.blocked.as_slice())?;
     Ok(text)
 }

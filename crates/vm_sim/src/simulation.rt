@@ -8,7 +8,7 @@ ghost use Rattle.vm_sim.specs.declared.run_error.RunError.TheVariants.{Memory, R
 ghost use Rattle.vm_sim.specs.Calendar.{course_asked};
 ghost use Rattle.vm_runs.specs.Course.{host_after};
 ghost use Rattle.vm_sim.specs.Course.{after_boundary, lines_for, next_world, boundary_of_lines, world_after};
-ghost use Rattle.vm_sim.specs.Headline.{ConservesFrames, ReadsLastWrites, RevokesFairly};
+ghost use Rattle.vm_sim.specs.Headline.{ConservesFrames, ReadsLastWrites, RebalancesFairly, RevokesFairly};
 ghost use Rattle.vm_sim.specs.Report.{report_of_boundary, epoch_text, report_in, report_of, report_of_epoch};
 ghost use Rattle.vm_sim.specs.Run.{CutShort, Fails, RunsConfig};
 ghost use Rattle.vm_streams.specs.Streams.{AppendsFront, NewlyFailed};
@@ -252,7 +252,8 @@ fn simulate<RT: Threads + Sync, G: Gate + Sync, W: Sink>(
 /// The guests of an epoch are served by at most `workers` threads, the caller's among them; each guest passes the gate. Whatever
 /// their number, the report and the host are those of one worker that serves the guests in order. In that run each read gives the
 /// last write there; frames free, held and set aside add up to the machine; and each revocation takes from a guest above its
-/// minimum whose adjusted ratio of shares to pages is least (Waldspurger, OSDI 2002, sections 5.1 and 5.2).
+/// minimum whose adjusted ratio of shares to pages is least (Waldspurger, OSDI 2002, sections 5.1 and 5.2), as does each page that
+/// moves to a guest that would pay more for it, which is taken from none that uses all it has (section 6.3).
 ///
 /// There are 1 to 64 workers, else the answer is [`RunError::Workers`], before anything is read. At most 16777216 bytes are read,
 /// and one more.
@@ -284,6 +285,7 @@ pub fn run<RT: Threads + Sync, G: Gate + Sync, R: Source, W: Sink>(
     ensures reads { OnOk result (RunsConfig (R.remaining reader.old) (R.remaining reader.new) ReadsLastWrites) }
     ensures conservation { OnOk result (RunsConfig (R.remaining reader.old) (R.remaining reader.new) ConservesFrames) }
     ensures revocations { OnOk result (RunsConfig (R.remaining reader.old) (R.remaining reader.new) RevokesFairly) }
+    ensures rebalancing { OnOk result (RunsConfig (R.remaining reader.old) (R.remaining reader.new) RebalancesFairly) }
     ensures failed { IfErr result (Fails (R.remaining reader.old) (R.remaining reader.new)
         (W.contents writer.old) (W.contents writer.new)
         16777216 (R.has_failed reader.new) (W.has_failed writer.new)) }

@@ -9,7 +9,7 @@ use Rattle.vm_sim.specs.declared.run_error.RunError.{RunError}
 use Rattle.vm_sim.specs.declared.run_error.RunError.TheVariants.{Config, Read, Write, Memory, Workers}
 use Rattle.vm_sim.specs.Run.{MeansConfig}
 use Rattle.vm_streams.specs.Streams.{AppendsFront}
-use Rattle.vm_sweep.specs.Combinations.{ValueLists, combinations}
+use Rattle.vm_sweep.specs.Combinations.{ValueLists, combinations, rebalancing_of}
 use Rattle.vm_sweep.specs.Orders.{Order, order_of}
 use Rattle.vm_sweep.specs.declared.outcome.Detail.TheVariants.{Run}
 use Rattle.vm_sweep.specs.SweepDrawing.{sweep_drawing}
@@ -25,6 +25,7 @@ swept_run values summary = record {
   swap = values.swap;
   tax = values.tax;
   page_rate = values.page_rate;
+  rebalance = values.rebalance;
   moved = saturated (summary.paged + summary.evicted);
   waited = saturated (summary.blocked + summary.stalls);
 }
@@ -38,17 +39,17 @@ abbrev pub value_count : Option (List ℕ) → ℕ
 value_count None = 1
 value_count (Some values) = length values
 
--- how many combinations of swap, tax and page rate there are: the drawing has a curve for each
+-- how many combinations of all settings but the frames there are: the drawing has a curve for each
 abbrev pub curves_of : ValueLists → ℕ
-curves_of lists = value_count lists.swap * value_count lists.tax * value_count lists.page_rate
+curves_of lists = value_count lists.swap * value_count lists.tax * value_count lists.page_rate * value_count lists.rebalance
 
 -- the runs of all combinations, in order
 abbrev pub runs_of : ValueLists → Configuration → List SweptRun
-runs_of lists config = map swept_of (map (order_of Run config) (combinations lists (values_of config)))
+runs_of lists config = map swept_of (map (order_of (Run (rebalancing_of lists)) config) (combinations lists (values_of config)))
 
 -- the drawing of the sweep of a configuration
 unfoldable pub drawing_of : ValueLists → Configuration → List ℕ
-drawing_of lists config = svg_of (sweep_drawing (runs_of lists config) (curves_of lists))
+drawing_of lists config = svg_of (sweep_drawing (rebalancing_of lists) config.machine.page (runs_of lists config) (curves_of lists))
 
 module _ (old new : Option (List ℕ)) where
   -- why there is no drawing, or not all of it, and what was written by then

@@ -4,7 +4,7 @@ use Rattle.vm_config.specs.declared.config.Config.{Config}
 use Rattle.vm_sweep.specs.declared.outcome.Detail.{Detail}
 use Rattle.vm_tally.specs.Combinations.{Values, configured}
 
--- a configuration that differs from a first one in the four settings alone
+-- a configuration that differs from a first one in the five settings alone
 abbrev pub IsVaried : Config → Config → Type 0
 IsVaried base c = (v : Values) → configured v c ≡ configured v base
 

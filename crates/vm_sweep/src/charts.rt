@@ -1,13 +1,14 @@
 //! The drawing of a sweep.
 ghost use Rattle.std.specs.Prelude.{◌≡◌, ◌<◌, IfOk, option_copied, string_bytes};
 ghost use Rattle.vm_drawing.specs.Picture.{svg_of};
-ghost use Rattle.vm_sweep.specs.SweepDrawing.{frame_axis, note_of, sweep_chart, sweep_charts, sweep_drawing, swept_curve, swept_curves};
+ghost use Rattle.vm_sweep.specs.SweepDrawing.{frame_axis, note_of, runs_words, settings_of, sweep_chart, sweep_charts, sweep_drawing, swept_curve, swept_curves};
 ghost use Rattle.vm_sweep.specs.SweptRuns.{frames_of};
 
 use crate::names::curve_name;
 use crate::runs::{Measure, SweptRun, combinations, machine_count, places_of, values_of};
 use std::alloc::{AllocError, Global};
-use vm_drawing::{Axis, Chart, Curve, Drawing, counted, draw};
+use vm_drawing::{Axis, Chart, Curve, Drawing, counted, draw, page_words};
+use vm_tally::Rebalancing;
 
 // The curve of a combination: of the one with this number, whose run on the first machine is this one.
 fn swept_curve(
@@ -69,15 +70,47 @@ fn sweep_charts(alloc: Global, runs: &[SweptRun], curves: usize) -> Result<Vec<C
     Ok(charts)
 }
 
-#[tactic(auto, unfolding(crate::specs::SweepDrawing::note_of))]
-fn note_of(alloc: Global, machines: usize, combinations: usize) -> Result<String, AllocError>
-    ensures { IfOk result (λ note. string_bytes note ≡ note_of machines combinations) }
+// What a combination is of.
+#[tactic(auto, unfolding(crate::specs::SweepDrawing::settings_of))]
+fn settings_of(rebalancing: Rebalancing) -> &'static str
+    ensures { result.now ≡ settings_of rebalancing }
+{
+    match rebalancing {
+        Rebalancing::Own => "swap, tax and page rate",
+        Rebalancing::Swept => "swap, tax, page rate and rebalance",
+    }
+}
+
+// How many runs there are, and of what.
+#[tactic(auto, unfolding(crate::specs::SweepDrawing::runs_words))]
+fn runs_words(
+    alloc: Global,
+    rebalancing: Rebalancing,
+    machines: usize,
+    combinations: usize,
+) -> Result<String, AllocError>
+    ensures { IfOk result (λ words. string_bytes words ≡ runs_words rebalancing machines combinations) }
 {
     let machines = counted(alloc, machines, "machine")?;
     let combinations = counted(alloc, combinations, "combination")?;
-    format!(in alloc;
-        "{machines}, {combinations} of swap, tax and page rate; sums over all epochs; a frame and a page have 4096 bytes"
-    )
+    let settings = settings_of(rebalancing);
+    format!(in alloc; "{machines}, {combinations} of {settings}")
+}
+
+#[tactic(auto, unfolding(crate::specs::SweepDrawing::note_of))]
+fn note_of(
+    alloc: Global,
+    rebalancing: Rebalancing,
+    page: u32,
+    machines: usize,
+    combinations: usize,
+) -> Result<String, AllocError>
+    ensures { IfOk result (λ note. string_bytes note ≡ note_of rebalancing page machines combinations) }
+{
+    let runs = runs_words(alloc, rebalancing, machines, combinations)?;
+    let words = page_words(alloc, page)?;
+    let note = format!(in alloc; "{runs}; sums over all epochs; {words}")?;
+    Ok(note)
 }
 
 fn frames_of(run: Option<&SweptRun>) -> u64
@@ -99,13 +132,20 @@ fn frame_axis(runs: &[SweptRun]) -> Axis
     }
 }
 
-fn sweep_drawing(alloc: Global, runs: &[SweptRun], curves: usize) -> Result<Drawing, AllocError>
-    ensures { IfOk result (λ drawing. drawing ≡ sweep_drawing runs.now curves) }
+fn sweep_drawing(
+    alloc: Global,
+    rebalancing: Rebalancing,
+    page: u32,
+    runs: &[SweptRun],
+    curves: usize,
+) -> Result<Drawing, AllocError>
+    ensures { IfOk result (λ drawing. drawing ≡ sweep_drawing rebalancing page runs.now curves) }
 {
     let title = "What a host pages and whom it lets wait on each machine";
     let title = String::from_str(alloc, title)?;
     let combined = combinations(runs, curves).len();
-    let note = note_of(alloc, machine_count(runs, curves), combined)?;
+    let machines = machine_count(runs, curves);
+    let note = note_of(alloc, rebalancing, page, machines, combined)?;
     let along = String::from_str(alloc, "frames")?;
     let charts = sweep_charts(alloc, runs, curves)?;
     Ok(Drawing::new(title, note, along, frame_axis(runs), charts))
@@ -116,17 +156,24 @@ fn sweep_drawing(alloc: Global, runs: &[SweptRun], curves: usize) -> Result<Draw
 /// 1. Frames paged and pages evicted, their sum.
 /// 2. Guests blocked or stalled, summed over the epochs.
 ///
-/// `curves` is how many combinations of swap, tax and page rate there are, and the runs are in the order of their table: machine by
-/// machine, and combination by combination on each. A curve joins what a combination has on each machine, at the machine's frames,
-/// by straight lines. Its name tells those of the three that differ among the combinations, and is `all` where none does. The axis
-/// goes from the frames of the first run to those of the last one.
+/// `curves` is how many combinations of swap, tax, page rate and rebalance there are, and the runs are in the order of their table:
+/// machine by machine, and combination by combination on each. A curve joins what a combination has on each machine, at the machine's
+/// frames, by straight lines. Its name tells those of the four that differ among the combinations, and is `all` where none does. The
+/// axis goes from the frames of the first run to those of the last one. `page` is how many KiB a page stands for, which the note says;
+/// it speaks of `rebalance` only where its values are from a list.
 ///
 /// Runs of a last machine that lacks some are not drawn.
 ///
 /// [`AllocError`] comes only where memory was refused.
-pub fn sweep_svg(alloc: Global, runs: &[SweptRun], curves: usize) -> Result<Vec<u8>, AllocError>
-    ensures { IfOk result (λ text. text.items ≡ svg_of (sweep_drawing runs.now curves)) }
+pub fn sweep_svg(
+    alloc: Global,
+    rebalancing: Rebalancing,
+    page: u32,
+    runs: &[SweptRun],
+    curves: usize,
+) -> Result<Vec<u8>, AllocError>
+    ensures { IfOk result (λ text. text.items ≡ svg_of (sweep_drawing rebalancing page runs.now curves)) }
 {
-    let drawing = sweep_drawing(alloc, runs, curves)?;
+    let drawing = sweep_drawing(alloc, rebalancing, page, runs, curves)?;
     draw(alloc, &drawing)
 }

@@ -35,6 +35,7 @@ fn swept_of(done: &RunDone) -> Option<SweptRun>
         swap: values.swap,
         tax: values.tax,
         page_rate: values.page_rate,
+        rebalance: values.rebalance,
         moved: summary.paged.saturating_add(summary.evicted),
         waited: summary.blocked.saturating_add(summary.stalls),
     })
@@ -76,6 +77,13 @@ fn run_all<RT: Threads + Sync, P: Progress>(
     Ok(runs)
 }
 
+// How many KiB a page stands for.
+fn page_of(config: &Config) -> u32
+    ensures { result ≡ config.now.machine.page }
+{
+    config.machine.page
+}
+
 // The drawing of a configuration.
 fn drawing_of<RT: Threads + Sync, P: Progress>(
     rt: &RT,
@@ -88,14 +96,16 @@ fn drawing_of<RT: Threads + Sync, P: Progress>(
     requires { (0 < workers) × (workers ≤ 64) }
     ensures { IfOk result (λ drawing. drawing.items ≡ drawing_of lists.now config) }
 {
-    let (jobs, mut places) = prepare(alloc, Detail::Run, config, lists, workers)?;
+    let rebalancing = lists.rebalancing();
+    let page = page_of(&config);
+    let (jobs, mut places) = prepare(alloc, Detail::Run(rebalancing), config, lists, workers)?;
     let runs = run_all(rt, alloc, jobs.into_iter(), &mut places, progress)?;
-    sweep_svg(alloc, &runs, lists.curve_count())
+    sweep_svg(alloc, rebalancing, page, &runs, lists.curve_count())
 }
 
 /// Runs the configuration that a text is once for each combination of values, as [`sweep`](crate::sweep) does, and draws the sweep as
-/// [`sweep_svg`] draws it: what a host pages and whom it lets wait on each machine, with a curve for each combination of swap, tax
-/// and page rate.
+/// [`sweep_svg`] draws it: what a host pages and whom it lets wait on each machine, with a curve for each combination of swap, tax,
+/// page rate and rebalance.
 ///
 /// Nothing is written before the last run has ended; `progress` is told after each round. The drawing is the same for any number of
 /// workers.

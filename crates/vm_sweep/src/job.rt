@@ -76,6 +76,13 @@ impl RunDone {
         self.combination
     }
 
+    /// How much is told of it.
+    pub(crate) fn detail(&self) -> Detail
+        ensures { result ≡ self.now.detail }
+    {
+        self.detail
+    }
+
     /// What is told of it, unless memory was refused.
     pub(crate) fn outcome(&self) -> Option<&Outcome>
         ensures { IfSome result (λ outcome. Tells self.now.detail self.now.values

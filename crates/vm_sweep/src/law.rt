@@ -2,14 +2,15 @@
 ghost use Rattle.std.specs.Prelude.{◌<◌, List, ℕ, All};
 ghost use Rattle.vm_drawing.specs.Stacked.{AreStacked};
 ghost use Rattle.vm_sweep.specs.declared.runs.SweptRun.{SweptRun};
+ghost use Rattle.vm_tally.specs.declared.table.Rebalancing.{Rebalancing};
 ghost use Rattle.vm_sweep.specs.OnAxis.{FramesRise, IsOnAxis};
 ghost use Rattle.vm_sweep.specs.SweepDrawing.{frame_axis, sweep_drawing};
 ghost use Rattle.vm_sweep.specs.SweptRuns.{places_of};
 
 /// In the picture of a sweep no chart reaches into the room of another one, and no value leaves its chart upwards.
 pub fn law_stacked_sweep()
-    ensures { (runs : List SweptRun) (curves : ℕ)
-        → AreStacked (sweep_drawing runs curves).along (sweep_drawing runs curves).axis 70 (sweep_drawing runs curves).charts }
+    ensures { (rebalancing : Rebalancing) (page : ℕ) (runs : List SweptRun) (curves : ℕ)
+        → let drawing = sweep_drawing rebalancing page runs curves in AreStacked drawing.along drawing.axis 70 drawing.charts }
 {}
 
 /// No value leaves its chart to the left or to the right, where no machine has fewer frames than one before it.

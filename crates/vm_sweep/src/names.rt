@@ -13,9 +13,15 @@ pub(crate) enum Setting {
     Swap,
     Tax,
     PageRate,
+    Rebalance,
 }
 
-const SETTINGS: [Setting; 3] = [Setting::Swap, Setting::Tax, Setting::PageRate];
+const SETTINGS: [Setting; 4] = [
+    Setting::Swap,
+    Setting::Tax,
+    Setting::PageRate,
+    Setting::Rebalance,
+];
 
 fn setting_of(setting: Setting, run: &SweptRun) -> u32
     ensures { result ≡ setting_of setting run.now }
@@ -24,6 +30,7 @@ fn setting_of(setting: Setting, run: &SweptRun) -> u32
         Setting::Swap => run.swap,
         Setting::Tax => run.tax,
         Setting::PageRate => run.page_rate,
+        Setting::Rebalance => run.rebalance,
     }
 }
 
@@ -57,6 +64,7 @@ fn setting_words(alloc: Global, setting: Setting, run: &SweptRun) -> Result<Stri
             format!(in alloc; "tax {percent}")
         }
         Setting::PageRate => format!(in alloc; "page rate {value}"),
+        Setting::Rebalance => format!(in alloc; "rebalance {value}"),
     }
 }
 

@@ -1,21 +1,33 @@
 //! What is told of a run.
 ghost use Rattle.std.specs.Prelude.{◌≡◌, IfOk};
-ghost use Rattle.vm_sweep.specs.Outcomes.{Tells};
+ghost use Rattle.vm_sweep.specs.Outcomes.{Tells, rebalancing_in};
 
 use std::alloc::Global;
 use vm_config::Config;
 use vm_sim::RunError;
 use vm_tally::{
-    Combination, Summary, guest_names, guest_records_text, run_alone, run_guests_alone,
+    Combination, Rebalancing, Summary, guest_names, guest_records_text, run_alone, run_guests_alone,
 };
 
-/// How much is told of a run.
+/// How much is told of a run, and where the values of the rebalancing are from.
 #[derive(Clone, Copy, PartialEq, Eq)]
 pub(crate) enum Detail {
     /// The run as a whole.
-    Run,
+    Run(Rebalancing),
     /// Each of its guests.
-    EachGuest,
+    EachGuest(Rebalancing),
+}
+
+impl Detail {
+    /// Where the values of the rebalancing are from.
+    pub(crate) fn rebalancing(self) -> Rebalancing
+        ensures { result ≡ rebalancing_in self }
+    {
+        match self {
+            Detail::Run(rebalancing) => rebalancing,
+            Detail::EachGuest(rebalancing) => rebalancing,
+        }
+    }
 }
 
 /// What is told of a run.
@@ -30,15 +42,16 @@ pub(crate) enum Outcome {
 // Runs a configuration, and tells its run guest by guest, with these values.
 fn run_by_guests(
     alloc: Global,
+    rebalancing: Rebalancing,
     combination: &Combination,
     mut config: Config,
 ) -> Result<(Outcome, Config), RunError>
-    ensures told { IfOk result (λ r. Tells Detail.EachGuest combination.now config r.0) }
+    ensures told { IfOk result (λ r. Tells (Detail.EachGuest rebalancing) combination.now config r.0) }
     ensures back { IfOk result (λ r. r.1 ≡ config) }
 {
     let names = guest_names(alloc, &mut config)?;
     let (summaries, config) = run_guests_alone(alloc, config)?;
-    let records = guest_records_text(alloc, combination, &names, &summaries)?;
+    let records = guest_records_text(alloc, rebalancing, combination, &names, &summaries)?;
     Ok((Outcome::AsRecords(records), config))
 }
 
@@ -54,10 +67,10 @@ pub(crate) fn run_told(
     ensures back { IfOk result (λ r. r.1 ≡ config) }
 {
     match detail {
-        Detail::Run => {
+        Detail::Run(_) => {
             let (summary, config) = run_alone(alloc, config)?;
             Ok((Outcome::InNumbers(summary), config))
         }
-        Detail::EachGuest => run_by_guests(alloc, combination, config),
+        Detail::EachGuest(rebalancing) => run_by_guests(alloc, rebalancing, combination, config),
     }
 }

@@ -15,6 +15,8 @@ pub struct SweptRun {
     pub tax: u32,
     /// The most frames that a guest gives up by paging in a boundary.
     pub page_rate: u32,
+    /// The most pages that a boundary moves from guest to guest.
+    pub rebalance: u32,
     /// Frames paged and pages evicted, their sum.
     pub moved: u64,
     /// Guests blocked or stalled, summed over the epochs.

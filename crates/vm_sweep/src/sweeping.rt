@@ -22,15 +22,15 @@ use std::vec::IntoIter;
 use vm_config::{Config, read_config};
 use vm_sim::RunError;
 use vm_streams::{Sink, write_text};
-use vm_tally::{Combination, Summary, guests_header_text, header_text, record_text};
+use vm_tally::{Combination, Rebalancing, Summary, guests_header_text, header_text, record_text};
 
 // The header of a table.
 fn header_for(detail: Detail) -> &'static str
     ensures { result.now ≡ header_for detail }
 {
     match detail {
-        Detail::Run => header_text(),
-        Detail::EachGuest => guests_header_text(),
+        Detail::Run(rebalancing) => header_text(rebalancing),
+        Detail::EachGuest(rebalancing) => guests_header_text(rebalancing),
     }
 }
 
@@ -59,17 +59,19 @@ fn write_row<W: Sink>(row: &str, writer: &mut W) -> Result<(), RunError>
 // Writes the record of a run that is told in numbers.
 fn write_summary<W: Sink>(
     alloc: Global,
+    rebalancing: Rebalancing,
     combination: &Combination,
     summary: &Summary,
     writer: &mut W,
 ) -> Result<(), RunError>
-    ensures done { OnOk result (Appends (W.contents writer.old) (W.contents writer.new) (record_text combination.now summary.now)) }
+    ensures done { OnOk result (Appends (W.contents writer.old) (W.contents writer.new)
+        (record_text rebalancing combination.now summary.now)) }
     ensures failed { IfErr result (FailsWithin (W.contents writer.old) (W.contents writer.new)
-        (record_text combination.now summary.now ∷ [])) }
+        (record_text rebalancing combination.now summary.now ∷ [])) }
     ensures stays { OnOk result (W.has_failed writer.new ≡ W.has_failed writer.old) }
     ensures cause { IfErr result (CutShort (W.has_failed writer.old) (W.has_failed writer.new)) }
 {
-    let text = record_text(alloc, combination, summary)?;
+    let text = record_text(alloc, rebalancing, combination, summary)?;
     write_row(text.as_str(), writer)
 }
 
@@ -85,7 +87,8 @@ fn write_record<W: Sink>(alloc: Global, done: &RunDone, writer: &mut W) -> Resul
     };
     match outcome {
         Outcome::InNumbers(summary) => {
-            write_summary(alloc, &done.combination(), summary, writer)
+            let rebalancing = done.detail().rebalancing();
+            write_summary(alloc, rebalancing, &done.combination(), summary, writer)
         }
         Outcome::AsRecords(records) => write_row(records.as_str(), writer),
     }
@@ -186,7 +189,7 @@ pub fn sweep<RT: Threads + Sync, W: Sink, P: Progress>(
     write_table(
         rt,
         alloc,
-        Detail::Run,
+        Detail::Run(lists.rebalancing()),
         config,
         lists,
         workers,
@@ -225,7 +228,7 @@ pub fn sweep_guests<RT: Threads + Sync, W: Sink, P: Progress>(
     write_table(
         rt,
         alloc,
-        Detail::EachGuest,
+        Detail::EachGuest(lists.rebalancing()),
         config,
         lists,
         workers,

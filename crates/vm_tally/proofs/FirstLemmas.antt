@@ -37,6 +37,7 @@ first_summary c =
       paged = 0;
       evicted = 0;
       granted = 0;
+      rebalanced = 0;
       blocked = 0;
       stalls = 0;
       done = 0;

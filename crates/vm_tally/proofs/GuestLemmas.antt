@@ -13,7 +13,7 @@ use Rattle.vm_sim.specs.Course.{boundary_at, course_of, ready_world, world_after
 use Rattle.vm_tally.specs.declared.guest_summary.GuestSummary.{GuestSummary}
 use Rattle.vm_tally.specs.Counting.{sum_over}
 use Rattle.vm_tally.specs.Counts.{executed_by, swapped_of}
-use Rattle.vm_tally.specs.GuestSummary.{blocked_in, done_in, evicted_in, granted_in, guest_after, guest_ready, guest_summaries_of, guest_summary_after, paged_in, revoked_in, runs_in, stalls_in}
+use Rattle.vm_tally.specs.GuestSummary.{blocked_in, done_in, evicted_in, granted_in, guest_after, guest_ready, guest_summaries_of, guest_summary_after, paged_in, rebalanced_in, revoked_in, runs_in, stalls_in}
 use Rattle.vm_tally.specs.GuestTally.{Tally, all_seen_after, all_seen_ready, counts_over, each_with_more, empty_tally, seen_after, seen_ready, sighting_after, summary_at, tally_after, unseen, with_boundary, with_epoch, with_more}
 use Rattle.vm_tally.specs.Summary.{after_in, ready_in, told_in}
 use Rattle.vm_tally.proofs.ColumnLemmas.{with_more-saturated}
@@ -58,6 +58,7 @@ tally-next course guests k = λ i. record {
   revoked = counts-next (revoked_in course) guests k i;
   paged = counts-next (paged_in course) guests k i;
   granted = counts-next (granted_in course) guests k i;
+  rebalanced = counts-next (rebalanced_in course) guests k i;
   blocked = counts-next (blocked_in course) guests k i;
   seen = sightings-next course guests k i;
 }
@@ -96,6 +97,7 @@ first-tally c guests = λ i. record {
   revoked = replicate-map 0 0 guests i;
   paged = replicate-map 0 0 guests i;
   granted = replicate-map 0 0 guests i;
+  rebalanced = replicate-map 0 0 guests i;
   blocked = replicate-map 0 0 guests i;
   seen = (replicate-map unseen 0 guests ∙ (λ t. map (λ p. unseen-first c p t) (range_with_len 0 guests))) i;
 }
@@ -127,6 +129,7 @@ summary-at course guests n p within =
       paged = count-at (paged_in course) guests n p within i;
       evicted = (seen i).evicted;
       granted = count-at (granted_in course) guests n p within i;
+      rebalanced = count-at (rebalanced_in course) guests n p within i;
       blocked = count-at (blocked_in course) guests n p within i;
       stalls = (seen i).stalls;
       done = (seen i).done;

@@ -4,4 +4,5 @@ pub mod FirstLemmas
 pub mod EachLemmas
 pub mod ColumnLemmas
 pub mod GuestLemmas
+pub mod TextLemmas
 pub mod GuestTextLemmas

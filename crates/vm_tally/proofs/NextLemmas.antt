@@ -9,7 +9,7 @@ use Rattle.vm_sim.specs.Course.{after_boundary, boundary_at, course_of, ready_wo
 use Rattle.vm_tally.specs.declared.summary.Summary.{Summary}
 use Rattle.vm_tally.specs.Counting.{sum_over}
 use Rattle.vm_tally.specs.Counts.{executed_by, over_guests, swapped_of}
-use Rattle.vm_tally.specs.Summary.{after_in, blocked_in, done_in, evicted_in, granted_in, hard_in, high_in, low_in, no_memory_in, no_swap_in, paged_in, ready_in, revoked_in, soft_in, stalls_in, summary_after, told_in}
+use Rattle.vm_tally.specs.Summary.{after_in, blocked_in, done_in, evicted_in, granted_in, hard_in, high_in, low_in, no_memory_in, no_swap_in, paged_in, ready_in, rebalanced_in, revoked_in, soft_in, stalls_in, summary_after, told_in}
 use Rattle.vm_tally.specs.Tally.{with_boundary, with_epoch}
 use Rattle.vm_tally.proofs.SumLemmas.{saturated_more}
 
@@ -39,6 +39,7 @@ summary_next course k = λ i. record {
   paged = sum_next (paged_in course) k i;
   evicted = sum_next (evicted_in course) k i;
   granted = sum_next (granted_in course) k i;
+  rebalanced = sum_next (rebalanced_in course) k i;
   blocked = sum_next (blocked_in course) k i;
   stalls = sum_next (stalls_in course) k i;
   done = sum_next (done_in course) k i;

@@ -45,6 +45,10 @@ module _ (course : Run) (position : ℕ) where
   abbrev pub granted_in : ℕ → ℕ
   granted_in k = entries_of position (told_in course k).granted
 
+  -- entries of the boundary's rebalancing list that name it
+  abbrev pub rebalanced_in : ℕ → ℕ
+  rebalanced_in k = entries_of position (told_in course k).rebalanced
+
   -- entries of the boundary's list of blocked guests that name it: 1 where it was blocked
   abbrev pub blocked_in : ℕ → ℕ
   blocked_in k = entries_of position (told_in course k).blocked
@@ -86,6 +90,7 @@ guest_summary_after course position n = record {
   paged = saturated (sum_over (paged_in course position) n);
   evicted = saturated (sum_over (evicted_in course position) n);
   granted = saturated (sum_over (granted_in course position) n);
+  rebalanced = saturated (sum_over (rebalanced_in course position) n);
   blocked = saturated (sum_over (blocked_in course position) n);
   stalls = saturated (sum_over (stalls_in course position) n);
   done = saturated (sum_over (done_in course position) n);

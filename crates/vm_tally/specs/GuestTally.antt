@@ -12,7 +12,7 @@ use Rattle.vm_tally.specs.declared.guest_sightings.Sighting.{Sighting}
 use Rattle.vm_tally.specs.Counting.{greatest_over, one_if, sum_over}
 use Rattle.vm_tally.specs.Counts.{evicted_from, executed_by, has_stalled, swapped_of}
 use Rattle.vm_tally.specs.GuestEntries.{entries_of, paged_by, revoked_from}
-use Rattle.vm_tally.specs.GuestSummary.{at_end_in, blocked_in, done_in, evicted_in, granted_in, most_swapped_in, paged_in, revoked_in, runs_in, stalls_in}
+use Rattle.vm_tally.specs.GuestSummary.{at_end_in, blocked_in, done_in, evicted_in, granted_in, most_swapped_in, paged_in, rebalanced_in, revoked_in, runs_in, stalls_in}
 
 -- each of a list is changed by its position, of which the first one is given
 abbrev pub each_at : {A : Type 0} → (ℕ → A → A) → (first : ℕ) → List A → List A
@@ -72,6 +72,7 @@ pub record Tally : Type 0 where
   pub revoked : List ℕ
   pub paged : List ℕ
   pub granted : List ℕ
+  pub rebalanced : List ℕ
   pub blocked : List ℕ
   pub seen : List Sighting
 
@@ -81,6 +82,7 @@ empty_tally count = record {
   revoked = replicate count 0;
   paged = replicate count 0;
   granted = replicate count 0;
+  rebalanced = replicate count 0;
   blocked = replicate count 0;
   seen = replicate count unseen;
 }
@@ -91,6 +93,7 @@ with_moves b t = record t {
   revoked = each_with_more (λ position. revoked_from position b) t.revoked;
   paged = each_with_more (λ position. paged_by position b) t.paged;
   granted = each_with_more (λ position. entries_of position b.granted) t.granted;
+  rebalanced = each_with_more (λ position. entries_of position b.rebalanced) t.rebalanced;
   blocked = each_with_more (λ position. entries_of position b.blocked) t.blocked;
 }
 
@@ -124,6 +127,7 @@ tally_after course guests n = record {
   revoked = counts_over (revoked_in course) guests n;
   paged = counts_over (paged_in course) guests n;
   granted = counts_over (granted_in course) guests n;
+  rebalanced = counts_over (rebalanced_in course) guests n;
   blocked = counts_over (blocked_in course) guests n;
   seen = map (λ position. sighting_after course position n) (range_with_len 0 guests);
 }
@@ -138,6 +142,7 @@ summary_at t w position =
       paged = slice_index t.paged position;
       evicted = seen.evicted;
       granted = slice_index t.granted position;
+      rebalanced = slice_index t.rebalanced position;
       blocked = slice_index t.blocked position;
       stalls = seen.stalls;
       done = seen.done;

@@ -69,6 +69,10 @@ module _ (course : Run) where
   abbrev pub granted_in : ℕ → ℕ
   granted_in k = length (told_in course k).granted
 
+  -- entries of its rebalancing list
+  abbrev pub rebalanced_in : ℕ → ℕ
+  rebalanced_in k = length (told_in course k).rebalanced
+
   -- guests that were blocked
   abbrev pub blocked_in : ℕ → ℕ
   blocked_in k = length (told_in course k).blocked
@@ -101,6 +105,7 @@ summary_after course n = record {
   paged = saturated (sum_over (paged_in course) n);
   evicted = saturated (sum_over (evicted_in course) n);
   granted = saturated (sum_over (granted_in course) n);
+  rebalanced = saturated (sum_over (rebalanced_in course) n);
   blocked = saturated (sum_over (blocked_in course) n);
   stalls = saturated (sum_over (stalls_in course) n);
   done = saturated (sum_over (done_in course) n);

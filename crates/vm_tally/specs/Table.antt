@@ -6,6 +6,8 @@ use Rattle.vm_lists.specs.declared.bounds.Unit.TheVariants.{Hundredths}
 use Rattle.vm_lists.specs.Shown.{shown}
 use Rattle.vm_tally.specs.Combinations.{Values}
 use Rattle.vm_tally.specs.declared.summary.Summary.{Summary}
+use Rattle.vm_tally.specs.declared.table.Rebalancing.{Rebalancing}
+use Rattle.vm_tally.specs.declared.table.Rebalancing.TheVariants.{Own, Swept}
 use Rattle.vm_tally.specs.Summary.{fits}
 
 -- a field behind the first one
@@ -16,28 +18,44 @@ field text = codes "," ++ text
 abbrev pub end_of_record : List ℕ
 end_of_record = 13 ∷ 10 ∷ []
 
-unfoldable pub header : List ℕ
-header =
+-- a column of rebalancing is there only where the runs have values of it from a list
+unfoldable pub header : Rebalancing → List ℕ
+header Own =
     codes "frames,swap,tax,page_rate,high,soft,hard,low,least_free,no_memory,no_swap,revoked,paged,evicted,granted,blocked,stalls,done,left,most_swapped,swapped,balloon,fits"
     ++ end_of_record
+header Swept =
+    codes "frames,swap,tax,page_rate,rebalance,high,soft,hard,low,least_free,no_memory,no_swap,revoked,paged,evicted,granted,rebalanced,blocked,stalls,done,left,most_swapped,swapped,balloon,fits"
+    ++ end_of_record
+
+abbrev pub number_field : ℕ → List ℕ
+number_field number = field (decimal number)
+
+-- a number in such a column, if it is there
+abbrev pub swept_field : Rebalancing → ℕ → List ℕ
+swept_field Own number = []
+swept_field Swept number = number_field number
 
 -- the tax is told in percent
-unfoldable pub combination_text : Values → List ℕ
-combination_text c = decimal c.frames ++ (field (decimal c.swap) ++ (field (shown Hundredths c.tax) ++ field (decimal c.page_rate)))
+unfoldable pub combination_text : Rebalancing → Values → List ℕ
+combination_text rebalancing c =
+    decimal c.frames ++ (field (decimal c.swap) ++ (field (shown Hundredths c.tax) ++ (field (decimal c.page_rate)
+    ++ swept_field rebalancing c.rebalance)))
 
-abbrev pub numbers_of : Summary → List ℕ
-numbers_of s =
-    s.high ∷ s.soft ∷ s.hard ∷ s.low ∷ s.least_free ∷ s.no_memory ∷ s.no_swap ∷ s.revoked ∷ s.paged ∷ s.evicted ∷ s.granted ∷ s.blocked
-    ∷ s.stalls ∷ s.done ∷ s.left ∷ s.most_swapped ∷ s.swapped ∷ s.balloon ∷ []
+-- the numbers up to what boundaries gave
+abbrev pub numbers_to_granted : Summary → List ℕ
+numbers_to_granted s =
+    s.high ∷ s.soft ∷ s.hard ∷ s.low ∷ s.least_free ∷ s.no_memory ∷ s.no_swap ∷ s.revoked ∷ s.paged ∷ s.evicted ∷ s.granted ∷ []
+
+-- and those behind
+abbrev pub numbers_from_blocked : Summary → List ℕ
+numbers_from_blocked s = s.blocked ∷ s.stalls ∷ s.done ∷ s.left ∷ s.most_swapped ∷ s.swapped ∷ s.balloon ∷ []
 
 abbrev pub yes_or_no : Bool → List ℕ
 yes_or_no true = codes "yes"
 yes_or_no false = codes "no"
 
-abbrev pub number_field : ℕ → List ℕ
-number_field number = field (decimal number)
-
 -- the record of a run
-unfoldable pub record_text : Values → Summary → List ℕ
-record_text c s =
-    combination_text c ++ (flat_map number_field (numbers_of s) ++ (field (yes_or_no (fits s)) ++ end_of_record))
+unfoldable pub record_text : Rebalancing → Values → Summary → List ℕ
+record_text rebalancing c s =
+    combination_text rebalancing c ++ (flat_map number_field (numbers_to_granted s) ++ (swept_field rebalancing s.rebalanced
+    ++ (flat_map number_field (numbers_from_blocked s) ++ (field (yes_or_no (fits s)) ++ end_of_record))))

@@ -22,6 +22,7 @@ empty_summary frames = record {
   paged = 0;
   evicted = 0;
   granted = 0;
+  rebalanced = 0;
   blocked = 0;
   stalls = 0;
   done = 0;
@@ -46,6 +47,7 @@ with_moves b s = record s {
   revoked = saturated (s.revoked + revoked b);
   paged = saturated (s.paged + paged b);
   granted = saturated (s.granted + length b.granted);
+  rebalanced = saturated (s.rebalanced + length b.rebalanced);
   blocked = saturated (s.blocked + length b.blocked);
 }
 

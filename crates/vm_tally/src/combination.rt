@@ -6,7 +6,7 @@ ghost use Rattle.vm_tally.specs.Combinations.{configured, values_of, with_value}
 use std::marker::Model;
 use vm_config::{Config, Setting};
 
-/// Values for four settings of a machine. Its type keeps their ranges.
+/// Values for five settings of a machine. Its type keeps their ranges.
 #[derive(Clone, Copy, Debug)]
 pub struct Combination {
     /// Frames, 1 to 262144.
@@ -17,6 +17,8 @@ pub struct Combination {
     pub tax: u32,
     /// The most frames that a guest gives up by paging in a boundary, 1 to 256.
     pub page_rate: u32,
+    /// The most pages that a boundary moves from idle guests to those who would pay more for them, at most 262144.
+    pub rebalance: u32,
 }
 
 impl Model for Combination {
@@ -24,11 +26,11 @@ impl Model for Combination {
 
     ghost Value = { Values };
 
-    ghost view = { λ c. record { frames = c.frames; swap = c.swap; tax = c.tax; page_rate = c.page_rate } };
+    ghost view = { λ c. record { frames = c.frames; swap = c.swap; tax = c.tax; page_rate = c.page_rate; rebalance = c.rebalance } };
 
-    ghost invariant = { λ c. AreInRange (record { frames = c.frames; swap = c.swap; tax = c.tax; page_rate = c.page_rate }) };
+    ghost invariant = { λ c. AreInRange (record { frames = c.frames; swap = c.swap; tax = c.tax; page_rate = c.page_rate; rebalance = c.rebalance }) };
 
-    ghost inverse = { λ v. record { frames = v.frames; swap = v.swap; tax = v.tax; page_rate = v.page_rate } };
+    ghost inverse = { λ v. record { frames = v.frames; swap = v.swap; tax = v.tax; page_rate = v.page_rate; rebalance = v.rebalance } };
 }
 
 // Gives a setting a value in its range.
@@ -53,6 +55,7 @@ impl Combination {
             swap: machine.swap,
             tax: machine.tax,
             page_rate: machine.page_rate,
+            rebalance: machine.rebalance,
         }
     }
 
@@ -67,6 +70,7 @@ impl Combination {
             Setting::Swap => other.swap = value,
             Setting::Tax => other.tax = value,
             Setting::PageRate => other.page_rate = value,
+            Setting::Rebalance => other.rebalance = value,
         }
         other
     }
@@ -79,5 +83,6 @@ impl Combination {
         put(config, Setting::Swap, self.swap);
         put(config, Setting::Tax, self.tax);
         put(config, Setting::PageRate, self.page_rate);
+        put(config, Setting::Rebalance, self.rebalance);
     }
 }

@@ -14,6 +14,8 @@ pub struct GuestSummary {
     pub evicted: u64,
     /// Pages by which its target rose.
     pub granted: u64,
+    /// Pages by which its target fell for guests that would pay more (section 6.3).
+    pub rebalanced: u64,
     /// Epochs in which it was blocked (section 6.3).
     pub blocked: u64,
     /// Epochs in which it stalled.

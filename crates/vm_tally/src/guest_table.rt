@@ -3,12 +3,12 @@ ghost use Rattle.std.specs.Prelude.{◌≡◌, ◌++◌, ◌∷◌, [], IfOk, On
 ghost use Rattle.std.specs.List.{flat_map};
 ghost use Rattle.std.specs.Option.{option_map};
 ghost use Rattle.vm_domains.specs.Domains.{names_of};
-ghost use Rattle.vm_tally.specs.GuestTable.{guest_numbers, guest_record, guest_records, guests_header, name_at, optional_field};
+ghost use Rattle.vm_tally.specs.GuestTable.{guest_fields, guest_records, guests_header, name_at, numbers_from_blocked, numbers_to_granted, optional_field};
 ghost use Rattle.vm_tally.specs.Table.{combination_text, end_of_record, field};
 
 use crate::combination::Combination;
 use crate::guest_summary::{AtEnd, GuestSummary};
-use crate::table::combination_text;
+use crate::table::{Rebalancing, combination_text, push_numbers, push_swept};
 use std::alloc::{AllocError, Global};
 use std::mem;
 use vm_config::Config;
@@ -16,10 +16,17 @@ use vm_domains::{Domains, Names};
 
 /// The header of the table, with the end of its record.
 #[tactic(auto, unfolding(crate::specs::GuestTable::guests_header))]
-pub fn guests_header_text() -> &'static str
-    ensures { result.now ≡ guests_header }
+pub fn guests_header_text(rebalancing: Rebalancing) -> &'static str
+    ensures { result.now ≡ guests_header rebalancing }
 {
-    "frames,swap,tax,page_rate,guest,epochs,revoked,paged,evicted,granted,blocked,stalls,done,left,most_swapped,target,held,swapped,balloon\r\n"
+    match rebalancing {
+        Rebalancing::Own => {
+            "frames,swap,tax,page_rate,guest,epochs,revoked,paged,evicted,granted,blocked,stalls,done,left,most_swapped,target,held,swapped,balloon\r\n"
+        }
+        Rebalancing::Swept => {
+            "frames,swap,tax,page_rate,rebalance,guest,epochs,revoked,paged,evicted,granted,rebalanced,blocked,stalls,done,left,most_swapped,target,held,swapped,balloon\r\n"
+        }
+    }
 }
 
 /// The names of the guests of a configuration, in order, for [`guest_records_text`]. The configuration stays as it is.
@@ -44,8 +51,8 @@ fn push_optional(text: &mut String, number: Option<u64>) -> Result<(), AllocErro
     }
 }
 
-// A field for each number.
-fn push_numbers(text: &mut String, numbers: &[Option<u64>]) -> Result<(), AllocError>
+// A field for each number, or an empty one.
+fn push_optionals(text: &mut String, numbers: &[Option<u64>]) -> Result<(), AllocError>
     ensures { OnOk result (string_bytes text.new ≡ string_bytes text.old ++ flat_map optional_field numbers.now) }
 {
     for number in numbers {
@@ -71,18 +78,20 @@ fn numbers_at_end(at_end: Option<AtEnd>) -> [Option<u64>; 5]
     }
 }
 
-// The numbers of a guest, in the order of their fields.
-#[tactic(auto, unfolding(crate::specs::GuestTable::guest_numbers))]
-fn guest_numbers(s: &GuestSummary) -> [Option<u64>; 14]
-    ensures { result ≡ guest_numbers s.now }
+// The numbers of a guest, in the order of their fields, up to what boundaries gave.
+fn numbers_to_granted(s: &GuestSummary) -> [u64; 5]
+    ensures { result ≡ numbers_to_granted s.now }
+{
+    [s.epochs, s.revoked, s.paged, s.evicted, s.granted]
+}
+
+// Those behind.
+#[tactic(auto, unfolding(crate::specs::GuestTable::numbers_from_blocked))]
+fn numbers_from_blocked(s: &GuestSummary) -> [Option<u64>; 9]
+    ensures { result ≡ numbers_from_blocked s.now }
 {
     let [left, target, held, swapped, balloon] = numbers_at_end(s.at_end);
     [
-        Some(s.epochs),
-        Some(s.revoked),
-        Some(s.paged),
-        Some(s.evicted),
-        Some(s.granted),
         Some(s.blocked),
         Some(s.stalls),
         Some(s.done),
@@ -95,18 +104,33 @@ fn guest_numbers(s: &GuestSummary) -> [Option<u64>; 14]
     ]
 }
 
+// The fields of the numbers of a guest.
+fn push_fields(
+    text: &mut String,
+    rebalancing: Rebalancing,
+    summary: &GuestSummary,
+) -> Result<(), AllocError>
+    ensures { OnOk result (string_bytes text.new ≡ string_bytes text.old ++ guest_fields rebalancing summary.now) }
+{
+    push_numbers(text, &numbers_to_granted(summary))?;
+    push_swept(text, rebalancing, summary.rebalanced)?;
+    push_optionals(text, &numbers_from_blocked(summary))?;
+    Ok(())
+}
+
 // The record of a guest, behind the fields of the combination.
 fn push_record(
     text: &mut String,
+    rebalancing: Rebalancing,
     front: &str,
     name: &str,
     summary: &GuestSummary,
 ) -> Result<(), AllocError>
     ensures { OnOk result (string_bytes text.new ≡ string_bytes text.old
-        ++ (front.now ++ (field name.now ++ (flat_map optional_field (guest_numbers summary.now) ++ end_of_record)))) }
+        ++ (front.now ++ (field name.now ++ (guest_fields rebalancing summary.now ++ end_of_record)))) }
 {
     write!(text, "{front},{name}")?;
-    push_numbers(text, &guest_numbers(summary))?;
+    push_fields(text, rebalancing, summary)?;
     text.push_str("\r\n")?;
     Ok(())
 }
@@ -122,16 +146,18 @@ fn name_at(names: &Names, position: usize) -> &str
 /// [`guest_names`] gives them. None of them needs quotes.
 pub fn guest_records_text(
     alloc: Global,
+    rebalancing: Rebalancing,
     combination: &Combination,
     names: &Names,
     summaries: &[GuestSummary],
 ) -> Result<String, AllocError>
-    ensures { IfOk result (λ text. string_bytes text ≡ guest_records combination.now names.now summaries.now) }
+    ensures { IfOk result (λ text. string_bytes text ≡ guest_records rebalancing combination.now names.now summaries.now) }
 {
-    let front = combination_text(alloc, combination)?;
+    let front = combination_text(alloc, rebalancing, combination)?;
     let mut text = String::new(alloc);
     for (position, summary) in summaries.iter().enumerate() {
-        push_record(&mut text, &front, name_at(names, position), summary)?;
+        let name = name_at(names, position);
+        push_record(&mut text, rebalancing, &front, name, summary)?;
     }
     Ok(text)
 }

@@ -19,6 +19,7 @@ pub(crate) struct GuestTally {
     revoked: Column,
     paged: Column,
     granted: Column,
+    rebalanced: Column,
     blocked: Column,
     seen: Sightings,
 }
@@ -28,7 +29,7 @@ impl Model for GuestTally {
 
     ghost Value = { Tally };
 
-    ghost view = { λ t. record { revoked = t.revoked; paged = t.paged; granted = t.granted; blocked = t.blocked; seen = t.seen } };
+    ghost view = { λ t. record { revoked = t.revoked; paged = t.paged; granted = t.granted; rebalanced = t.rebalanced; blocked = t.blocked; seen = t.seen } };
 }
 
 // What holds of the guest at a position of the host that a run leaves, if one runs there.
@@ -54,6 +55,7 @@ impl GuestTally {
             revoked: Column::new(alloc, guests)?,
             paged: Column::new(alloc, guests)?,
             granted: Column::new(alloc, guests)?,
+            rebalanced: Column::new(alloc, guests)?,
             blocked: Column::new(alloc, guests)?,
             seen: Sightings::new(alloc, guests)?,
         })
@@ -66,6 +68,7 @@ impl GuestTally {
         add_revoked(&mut self.revoked, told);
         add_paged(&mut self.paged, told);
         add_plan(&mut self.granted, &told.granted);
+        add_plan(&mut self.rebalanced, &told.rebalanced);
         add_each(&mut self.blocked, told.blocked.as_slice());
         self.seen.see_all_ready(host);
     }
@@ -88,6 +91,7 @@ impl GuestTally {
             paged: self.paged.at(position),
             evicted: seen.evicted,
             granted: self.granted.at(position),
+            rebalanced: self.rebalanced.at(position),
             blocked: self.blocked.at(position),
             stalls: seen.stalls,
             done: seen.done,

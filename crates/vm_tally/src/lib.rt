@@ -1,7 +1,8 @@
 //! A run, told in numbers.
 //!
 //! A [`Summary`] tells a run in numbers, in the words of its report: `specs/Summary.antt` says what each is, over the course of the
-//! run. [`run_alone`] runs a configuration to its end so. [`header_text`] and [`record_text`] write them as a table.
+//! run. [`run_alone`] runs a configuration to its end so. [`header_text`] and [`record_text`] write them as a table, which has columns of
+//! rebalancing where its values are from a list ([`Rebalancing`]).
 //!
 //! A [`GuestSummary`] tells of one guest of a run in the same words (`specs/GuestSummary.antt`). [`run_guests_alone`] gives one for
 //! each guest, which [`guests_header_text`] and [`guest_records_text`] write.
@@ -28,5 +29,5 @@ pub use guest_summary::{AtEnd, GuestSummary};
 pub use guest_table::{guest_names, guest_records_text, guests_header_text};
 pub use running::run_alone;
 pub use summary::Summary;
-pub use table::{header_text, record_text};
+pub use table::{Rebalancing, header_text, record_text};
 pub use vm_domains::Names;

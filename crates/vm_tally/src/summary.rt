@@ -25,6 +25,8 @@ pub struct Summary {
     pub evicted: u64,
     /// Pages by which targets rose.
     pub granted: u64,
+    /// Pages by which targets fell for guests that would pay more (section 6.3).
+    pub rebalanced: u64,
     /// Guests that were blocked, summed over epochs.
     pub blocked: u64,
     /// Guests that stalled, summed over epochs.

@@ -26,6 +26,7 @@ pub(crate) fn empty_summary(frames: u32) -> Summary
         paged: 0,
         evicted: 0,
         granted: 0,
+        rebalanced: 0,
         blocked: 0,
         stalls: 0,
         done: 0,
@@ -86,6 +87,8 @@ fn add_moves(summary: &mut Summary, told: &Boundary)
     summary.revoked = summary.revoked.saturating_add(revoked(told));
     summary.paged = summary.paged.saturating_add(paged(told));
     summary.granted = summary.granted.saturating_add(pages_of(&told.granted));
+    let rebalanced = pages_of(&told.rebalanced);
+    summary.rebalanced = summary.rebalanced.saturating_add(rebalanced);
     let blocked = told.blocked.as_slice().len() as u64;
     summary.blocked = summary.blocked.saturating_add(blocked);
 }

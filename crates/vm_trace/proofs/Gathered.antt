@@ -10,7 +10,8 @@ use Rattle.std.specs.Borrow.{Bor}
 use Rattle.std.specs.List.{list_any, position_or_len}
 use Rattle.vm_trace.specs.declared.error.TraceError.TheVariants.{Unknown}
 use Rattle.vm_trace.specs.Words.{words_of, words_left}
-use Rattle.vm_trace.specs.Meaning.{is_empty_word, step_of_words, step_within}
+use Rattle.vm_trace.specs.Meaning.{is_empty_word, steps_of_words, steps_within}
+use Rattle.vm_trace.specs.declared.limits.StepLimits.{StepLimits}
 use Rattle.vm_trace.proofs.WordCounts.{texts, many_words}
 
 -- the test of a space
@@ -74,9 +75,9 @@ same_both true x = refl
 same_both false x = refl
 
 -- a word that is empty, or one too many
-pub gathers_fault : (pages : ℕ) (text : List ℕ) (words : List (Bor (List ℕ))) (count : ℕ) (left : Bor (List ℕ)) (w : Bor (List ℕ)) (rest : Option (Bor (List ℕ))) → Gathers text words count (Some left) → words_of left.now ≡ w.now ∷ words_left rest → (is_empty_word w.now ≡ true) ⊎ (count ≡ 4) → step_within pages text ≡ Err Unknown
-unfolding step_within
-gathers_fault pages text words count left w rest g first fault =
+pub gathers_fault : (limits : StepLimits) (text : List ℕ) (words : List (Bor (List ℕ))) (count : ℕ) (left : Bor (List ℕ)) (w : Bor (List ℕ)) (rest : Option (Bor (List ℕ))) → Gathers text words count (Some left) → words_of left.now ≡ w.now ∷ words_left rest → (is_empty_word w.now ≡ true) ⊎ (count ≡ 4) → steps_within limits text ≡ Err Unknown
+unfolding steps_within
+gathers_fault limits text words count left w rest g first fault =
     let all : words_of text ≡ texts (take count words) ++ w.now ∷ words_left rest = sym g.whole ∙ ap (λ l. texts (take count words) ++ l) first in
     elim fault [
       | inl empty ↦
@@ -88,12 +89,12 @@ gathers_fault pages text words count left w rest g first fault =
           let five : 5 ≤ length (words_of text) =
           let len = ap length all ∙ length-append (texts (take count words)) (w.now ∷ words_left rest) in
           omega (arith, len, length-texts words count (let four = g.room in omega arith)) in
-          ap (cond (list_any is_empty_word (words_of text)) (Err Unknown)) (many_words pages (words_of text) five) ∙ same_both (list_any is_empty_word (words_of text)) (Err Unknown)
+          ap (cond (list_any is_empty_word (words_of text)) (Err Unknown)) (many_words limits (words_of text) five) ∙ same_both (list_any is_empty_word (words_of text)) (Err Unknown)
     ]
 
 -- all words are gathered
-pub gathers_all : (pages : ℕ) (text : List ℕ) (words : List (Bor (List ℕ))) (count : ℕ) → Gathers text words count None → step_within pages text ≡ step_of_words pages (texts (take count words))
-unfolding step_within
-gathers_all pages text words count g =
+pub gathers_all : (limits : StepLimits) (text : List ℕ) (words : List (Bor (List ℕ))) (count : ℕ) → Gathers text words count None → steps_within limits text ≡ steps_of_words limits (texts (take count words))
+unfolding steps_within
+gathers_all limits text words count g =
     let all : texts (take count words) ≡ words_of text = sym (append-nil _) ∙ g.whole in
     rw (← all, g.filled) refl

@@ -2,9 +2,12 @@ pub mod Gathered
 pub mod Hex
 pub mod InFront
 pub mod Kept
+pub mod Lists
 pub mod Numbers
 pub mod Padding
 pub mod Passed
+pub mod Found
 pub mod ReadIsSpelled
+pub mod Rows
 pub mod SpelledIsRead
 pub mod WordCounts

@@ -1,8 +1,8 @@
 -- The number of a word, digit by digit.
-use Rattle.std.proofs.Common.{◌≡◌, ℕ, ◌+◌, ◌-◌, ◌*◌, ◌^◌, ◌<◌, ◌≤◌, ◌⊎◌, inl, inr, ◌&&◌, Bool, true, false, leb, List, [], ◌∷◌, length, take, get_or, Ok, Err, refl, ◌∙◌, arith, rules}
+use Rattle.std.proofs.Common.{◌≡◌, ℕ, ◌+◌, ◌-◌, ◌*◌, ◌^◌, ◌<◌, ◌≤◌, ◌⊎◌, inl, inr, ◌&&◌, Bool, true, false, leb, List, [], ◌∷◌, length, take, get_or, Ok, Err, refl, ap, sym, ◌∙◌, arith, rules}
 use Rattle.std.proofs.lemmas.Bool.{le-leb, lt-leb, leb-true, and_parts}
 use Rattle.std.proofs.lemmas.Int.Digits.{digits_value_more}
-use Rattle.std.proofs.lemmas.List.{length-take-le}
+use Rattle.std.proofs.lemmas.List.{length-take-le, take_all}
 use Rattle.std.proofs.lemmas.List.Folds.{list_all_at, list_all_more}
 use Rattle.std.proofs.lemmas.List.Sums.{AllPass-from_list_all}
 use Rattle.std.proofs.lemmas.Str.{digit_value_digit}
@@ -96,3 +96,15 @@ IsNumeral-two (a ∷ b ∷ []) m n some few tens ones = record {
   value = omega (arith, tens.value, ones.value);
 }
 IsNumeral-two (a ∷ b ∷ c ∷ text) m n some few tens ones = absurd (omega arith)
+
+-- all digits of a text
+pub IsNumeral-all : (text : List ℕ) (n i : ℕ) → 1 ≤ length text → length text ≤ 8 → length text ≤ i → list_all is_ascii_digit (take i text) ≡ true → n ≡ digits_value 10 (take i text)
+    → IsNumeral text n
+IsNumeral-all text n i some few ended digits value =
+    let all : take i text ≡ text = take_all i text ended in
+    record {
+      some = some;
+      short = omega (arith, few);
+      digits = AllPass-from_list_all is_ascii_digit text (ap (list_all is_ascii_digit) (sym all) ∙ digits);
+      value = ap (digits_value 10) (sym all) ∙ sym value;
+    }

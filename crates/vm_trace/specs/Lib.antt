@@ -1,3 +1,4 @@
+pub mod Buffer
 pub mod Bytes
 pub mod Entries
 pub mod Kinds
@@ -5,6 +6,8 @@ pub mod Limits
 pub mod Meaning
 pub mod Sized
 pub mod Spelling
+pub mod TextSteps
 pub mod TraceError
+pub mod Versions
 pub mod Words
 pub mod Entering

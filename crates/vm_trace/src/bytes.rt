@@ -1,5 +1,5 @@
 // The bytes of a step, and how hexadecimal digits spell them.
-ghost use Rattle.std.specs.Prelude.{◌≡◌, ◌↔◌, ◌+◌, ◌*◌, ◌<◌, ◌≤◌, [], length, get_or, nat_lt, true, IsTrue};
+ghost use Rattle.std.specs.Prelude.{◌≡◌, ◌↔◌, ◌+◌, ◌*◌, ◌<◌, ◌/◌, ◌≤◌, ◌++◌, [], drop, length, get_or, nat_lt, true, IsTrue};
 ghost use Rattle.std.specs.List.{list_all};
 ghost use Rattle.std.specs.Char.{digit_value};
 ghost use Rattle.vm_trace.specs.Words.{is_hex, pair_of, hex_pairs};
@@ -75,20 +75,28 @@ impl Bytes {
         requires fits { length digits.now ≤ 2 * MAX_BYTES }
         ensures { result ≡ hex_pairs digits.now }
     {
-        let len = digits.len() / 2;
         let mut buffer = [0; MAX_BYTES];
-        for i in 0..len {
-            buffer[i] = byte_of(digits, i);
-        }
+        put_pairs(&mut buffer, digits);
         Bytes {
-            len: len as u8,
+            len: (digits.len() / 2) as u8,
             buffer,
         }
     }
 }
 
+// Writes the bytes that hexadecimal digits spell over the front of a buffer.
+pub(crate) fn put_pairs(buffer: &mut [u8], digits: &[u8])
+    requires digits { is_hex digits.now ≡ true }
+    requires fits { length digits.now ≤ 2 * length buffer.old }
+    ensures { buffer.new ≡ hex_pairs digits.now ++ drop (length digits.now / 2) buffer.old }
+{
+    for i in 0..digits.len() / 2 {
+        buffer[i] = byte_of(digits, i);
+    }
+}
+
 // The byte that the two digits at a place spell, counted in pairs.
-pub(crate) fn byte_of(digits: &[u8], place: usize) -> u8
+fn byte_of(digits: &[u8], place: usize) -> u8
     requires digits { is_hex digits.now ≡ true }
     requires inside { 2 * place + 1 < length digits.now }
     ensures { result ≡ 16 * digit_value (get_or digits.now (2 * place) 0) + digit_value (get_or digits.now (2 * place + 1) 0) }

@@ -1,18 +1,21 @@
-// How steps come into the entries of a trace.
-ghost use Rattle.std.specs.Prelude.{◌≡◌, ◌<◌, ◌≤◌, ◌↔◌, ◌^◌, ◌++◌, length, [], ◌∷◌, true, None, Err, IsTrue, IfOk, IfSome, OnErr, OnOk};
+// How steps become items of a trace.
+ghost use Rattle.std.specs.Prelude.{◌≡◌, ◌<◌, ◌≤◌, ◌↔◌, ◌^◌, ◌++◌, length, [], ◌∷◌, true, All, None, Err, IsTrue, IfOk, IfSome, OnErr, OnOk};
 ghost use Rattle.vm_trace.specs.declared.error.PushError.TheVariants.{Fault};
 ghost use Rattle.vm_trace.specs.declared.error.TraceError.{TraceError};
-ghost use Rattle.vm_trace.specs.Entries.{bytes_of, Keeps};
-ghost use Rattle.vm_trace.specs.Limits.{IsStep, IsWithin};
-ghost use Rattle.vm_trace.specs.Entering.{KeepsHex, LeavesHex, IsEntryOf};
-ghost use Rattle.vm_trace.specs.Sized.{step_in};
+ghost use Rattle.vm_trace.specs.Entries.{action_at, bytes_of, Keeps};
+ghost use Rattle.vm_trace.specs.Limits.{IsStep};
+ghost use Rattle.vm_trace.specs.Entering.{KeepsHex, LeavesHex, IsItemOf};
+ghost use Rattle.vm_trace.specs.Sized.{steps_in};
+ghost use Rattle.vm_trace.specs.TextSteps.{HasRow, list_of, listed};
 
-use crate::bytes::{Bytes, pair_of};
-use crate::entry::Entry;
+use crate::bytes::pair_of;
+use crate::entry::Item;
 use crate::error::{PushError, TraceError};
-use crate::parse::parse_step_within;
-use crate::plain::plain_entry;
-use crate::step::{Action, Step};
+use crate::limits::StepLimits;
+use crate::parse::steps_of;
+use crate::plain::plain_item;
+use crate::step::Action;
+use crate::text_steps::{Row, TextSteps, are_within};
 use std::alloc::AllocError;
 
 // The place behind the last byte, if it has 32 bits.
@@ -24,13 +27,13 @@ fn next_place(store: &Vec<u8>) -> Result<u32, AllocError>
 }
 
 // Puts the bytes of a step behind the others and gives their place.
-pub(crate) fn keep(store: &mut Vec<u8>, bytes: Bytes) -> Result<u32, AllocError>
+pub(crate) fn keep(store: &mut Vec<u8>, bytes: &[u8]) -> Result<u32, AllocError>
     ensures place { IfOk result (λ start. start ≡ length store.old.items) }
-    ensures ok { OnOk result (store.new.items ≡ store.old.items ++ bytes) }
+    ensures ok { OnOk result (store.new.items ≡ store.old.items ++ bytes.now) }
     ensures err { OnErr result (store.new.items ≡ store.old.items) }
 {
     let start = next_place(store)?;
-    store.extend_from_slice(bytes.as_slice())?;
+    store.extend_from_slice(bytes)?;
     Ok(start)
 }
 
@@ -84,79 +87,92 @@ pub(crate) fn keep_hex(store: &mut Vec<u8>, text: &[u8]) -> Result<Option<u32>, 
     }
 }
 
-// The entry of an action, whose bytes it puts behind the others.
-pub(crate) fn entry_of(store: &mut Vec<u8>, action: Action) -> Result<Entry, AllocError>
+// The item of an action, whose bytes it puts behind the others.
+pub(crate) fn item_of(store: &mut Vec<u8>, action: Action) -> Result<Item, AllocError>
     requires { IsStep action }
-    ensures entry { IfOk result (λ e. Keeps store.new.items e action) }
+    ensures item { IfOk result (λ item. Keeps store.new.items item (action ∷ [])) }
     ensures ok { OnOk result (store.new.items ≡ store.old.items ++ bytes_of action) }
     ensures err { OnErr result (store.new.items ≡ store.old.items) }
 {
     Ok(match action {
-        Action::Read { page, offset, len } => Entry::Read { page, offset, len },
+        Action::Read { page, offset, len } => Item::Read { len, offset, page },
         Action::Write {
             page,
             offset,
             bytes,
-        } => Entry::Write {
-            page,
-            start: keep(store, bytes)?,
+        } => Item::Write {
+            len: bytes.len() as u8,
             offset,
-            len: bytes.len() as u8,
+            page,
+            start: keep(store, bytes.as_slice())?,
         },
-        Action::Free { page } => Entry::Free { page },
-        Action::Idle => Entry::Idle,
-        Action::Post { queue, bytes } => Entry::Post {
+        Action::Touch { page } => Item::Touch { page, count: 1 },
+        Action::Free { page } => Item::Free { page, count: 1 },
+        Action::Idle => Item::Idle,
+        Action::Yield => Item::Yield,
+        Action::Post { queue, bytes } => Item::Post {
             queue,
-            start: keep(store, bytes)?,
-            len: bytes.len() as u8,
+            len: bytes.len() as u16,
+            start: keep(store, bytes.as_slice())?,
         },
+        Action::Actual { pages } => Item::Actual { pages },
     })
 }
 
-// The step that a text is within these pages, for a guest with this many.
-fn step_in(text: &str, pages: u32, size: u32) -> Result<Step, TraceError>
-    requires some { 1 ≤ pages }
-    requires few { pages ≤ 262144 }
-    ensures step { result ≡ step_in pages size text.now }
-    ensures within { IfOk result (IsWithin size) }
-    ensures bounded { IfOk result IsStep }
+// The steps that a text stands for within these limits, in a guest with this many pages.
+fn steps_in(text: &str, limits: StepLimits, size: u32) -> Result<TextSteps, TraceError>
+    requires some { 1 ≤ limits.pages }
+    requires few { limits.pages ≤ 262144 }
+    ensures steps { listed result ≡ steps_in limits size text.now }
+    ensures row { IfOk result (HasRow 262144) }
 {
-    let step = parse_step_within(text, pages)?;
-    if !step.is_within(size) {
+    let steps = steps_of(text, limits)?;
+    if !are_within(&steps, size) {
         return Err(TraceError::Range);
     }
-    Ok(step)
+    Ok(steps)
 }
 
-// The entry of a step that is not spelled plainly, or the fault of its text.
+// The item of a text that is not spelled plainly, or the text's fault.
 #[cold]
-fn other_entry(store: &mut Vec<u8>, text: &str, pages: u32, size: u32) -> Result<Entry, PushError>
-    requires some { 1 ≤ pages }
-    requires few { pages ≤ 262144 }
-    ensures entry { IfOk result (IsEntryOf pages size text.now store.old.items store.new.items) }
-    ensures fault { (fault : TraceError) → result ≡ Err (Fault fault) → step_in pages size text.now ≡ Err fault }
-    ensures err { OnErr result (store.new.items ≡ store.old.items) }
-{
-    let step = step_in(text, pages, size)?;
-    let entry = entry_of(store, step.action())?;
-    Ok(entry)
-}
-
-// The entry of the step that a text is, whose bytes it puts behind the others.
-pub(crate) fn entry_of_text(
+fn other_item(
     store: &mut Vec<u8>,
     text: &str,
-    pages: u32,
+    limits: StepLimits,
     size: u32,
-) -> Result<Entry, PushError>
-    requires some { 1 ≤ pages }
-    requires few { pages ≤ 262144 }
-    ensures entry { IfOk result (IsEntryOf pages size text.now store.old.items store.new.items) }
-    ensures fault { (fault : TraceError) → result ≡ Err (Fault fault) → step_in pages size text.now ≡ Err fault }
+) -> Result<Item, PushError>
+    requires some { 1 ≤ limits.pages }
+    requires few { limits.pages ≤ 262144 }
+    ensures item { IfOk result (IsItemOf limits size text.now store.old.items store.new.items) }
+    ensures fault { (fault : TraceError) → result ≡ Err (Fault fault) → steps_in limits size text.now ≡ Err fault }
     ensures err { OnErr result (store.new.items ≡ store.old.items) }
 {
-    if let Some(entry) = plain_entry(store, text.as_bytes(), pages.min(size))? {
-        return Ok(entry);
+    match steps_in(text, limits, size)? {
+        TextSteps::One(action) => Ok(item_of(store, action)?),
+        TextSteps::Touches(Row { page, count }) => Ok(Item::Touch { page, count }),
+        TextSteps::Frees(Row { page, count }) => Ok(Item::Free { page, count }),
     }
-    other_entry(store, text, pages, size)
+}
+
+// The item of the steps that a text stands for, whose bytes it puts behind the others.
+pub(crate) fn item_of_text(
+    store: &mut Vec<u8>,
+    text: &str,
+    limits: StepLimits,
+    size: u32,
+) -> Result<Item, PushError>
+    requires some { 1 ≤ limits.pages }
+    requires few { limits.pages ≤ 262144 }
+    ensures item { IfOk result (IsItemOf limits size text.now store.old.items store.new.items) }
+    ensures fault { (fault : TraceError) → result ≡ Err (Fault fault) → steps_in limits size text.now ≡ Err fault }
+    ensures err { OnErr result (store.new.items ≡ store.old.items) }
+{
+    let both = StepLimits {
+        pages: limits.pages.min(size),
+        version_3: limits.version_3,
+    };
+    if let Some(item) = plain_item(store, text.as_bytes(), both)? {
+        return Ok(item);
+    }
+    other_item(store, text, limits, size)
 }

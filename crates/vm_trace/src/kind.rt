@@ -9,10 +9,16 @@ pub enum StepKind {
     Read { page: u32, offset: u16, len: u8 },
     /// Writes its bytes to a page from the byte `offset` on.
     Write { page: u32, offset: u16 },
+    /// Touches a page, and neither reads nor writes it.
+    Touch { page: u32 },
     /// Frees a page.
     Free { page: u32 },
     /// Does nothing.
     Idle,
+    /// Does nothing, and nothing more in this epoch.
+    Yield,
     /// Posts its bytes as a raw buffer to a queue.
     Post { queue: Queue },
+    /// Tells how many pages are in the balloon: writes the device's `actual`.
+    Actual { pages: u32 },
 }

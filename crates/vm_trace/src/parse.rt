@@ -1,14 +1,21 @@
-// Reads a step from its text.
-ghost use Rattle.std.specs.Prelude.{◌≡◌, ◌==◌, ◌≤◌, [], ◌∷◌, bytes_eq, map, position, IfOk, Ok};
+// Reads steps from their text.
+ghost use Rattle.std.specs.Prelude.{◌≡◌, ◌==◌, ◌*◌, ◌≤◌, ℕ, [], ◌∷◌, bytes_eq, length, map, position, true, IfOk, OnOk, Ok, Err};
+ghost use Rattle.vm_trace.specs.declared.error.TraceError.{TraceError};
 ghost use Rattle.vm_trace.specs.declared.step.Step.{Step};
+ghost use Rattle.vm_trace.specs.declared.step.Action.TheVariants.{Touch, Free};
 ghost use Rattle.vm_trace.specs.Limits.{IsWithin};
 ghost use Rattle.vm_trace.specs.Spelling.{IsSpelled};
-ghost use Rattle.vm_trace.specs.Words.{words_of, words_left, number_of, number_in, bytes_in};
-ghost use Rattle.vm_trace.specs.Meaning.{read_step, write_step, free_step, queue_of, post_step, step_of_words, step_within};
+ghost use Rattle.vm_trace.specs.Words.{words_of, words_left, number_of, number_in, is_hex, hex_pairs, bytes_in};
+ghost use Rattle.vm_trace.specs.Meaning.{read_step, write_step, free_step, actual_step, queue_of, post_step, step_of_words, alone, steps_on, steps_of_words, step_within, steps_within};
+ghost use Rattle.vm_trace.specs.TextSteps.{IsRow, HasRow, listed, on_row};
+ghost use Rattle.vm_trace.specs.Versions.{before_3};
 
-use crate::bytes::{Bytes, MAX_BYTES, is_hex};
+use crate::buffer::{Buffer, MAX_BUFFER};
+use crate::bytes::{Bytes, is_hex};
 use crate::error::TraceError;
+use crate::limits::{StepLimits, most_posted};
 use crate::step::{Action, Queue, Step};
+use crate::text_steps::{Row, TextSteps, first_of};
 
 // The bytes of a page.
 pub(crate) const PAGE_BYTES: u32 = 4096;
@@ -30,19 +37,8 @@ pub fn parse_step(text: &str) -> Result<Step, TraceError>
     parse_step_within(text, 65536)
 }
 
-/// Reads a step of a guest with this many pages, of which words are separated by single spaces:
-///
-/// | Step | Words |
-/// |---|---|
-/// | [`Action::Read`] | `r PAGE OFFSET LEN` |
-/// | [`Action::Write`] | `w PAGE OFFSET HEX` |
-/// | [`Action::Free`] | `f PAGE` |
-/// | [`Action::Idle`] | `i` |
-/// | [`Action::Post`] | `p QUEUE HEX`, where QUEUE is `i`, `d` or `s` |
-///
-/// Numbers are decimal, and two hexadecimal digits in either case are a byte. The error is
-/// [`TraceError::Unknown`] where it stands, and else that of the first faulty word from left to right; that the
-/// bytes go beyond the page is looked for last.
+/// Reads a step of version 2 for a guest with this many pages, as [`Trace::push_text`](crate::Trace::push_text) does, whose table has
+/// its words and faults.
 pub fn parse_step_within(text: &str, pages: u32) -> Result<Step, TraceError>
     requires some { 1 ≤ pages }
     requires few { pages ≤ 262144 }
@@ -50,11 +46,15 @@ pub fn parse_step_within(text: &str, pages: u32) -> Result<Step, TraceError>
     ensures within { IfOk result (IsWithin pages) }
 
     // What is read spells the step, and what spells a step is read as that step.
-    ensures spelled { IfOk result (IsSpelled pages text.now) }
-    ensures accepts { (step : Step) → IsSpelled pages text.now step → result ≡ Ok step }
+    ensures spelled { IfOk result (IsSpelled (before_3 pages) text.now) }
+    ensures accepts { (step : Step) → IsSpelled (before_3 pages) text.now step → result ≡ Ok step }
 {
-    let action = action_of(text, pages)?;
-    Ok(Step::new(action))
+    let limits = StepLimits {
+        pages,
+        version_3: false,
+    };
+    let steps = steps_of(text, limits)?;
+    Ok(Step::new(first_of(steps)))
 }
 
 // The place of the first space.
@@ -74,10 +74,12 @@ fn first_word(text: &[u8]) -> (&[u8], Option<&[u8]>)
     }
 }
 
-// The action that a text is.
-fn action_of(text: &str, pages: u32) -> Result<Action, TraceError>
-    requires { 1 ≤ pages }
-    ensures { result ≡ step_within pages text.now }
+// The steps that a text stands for.
+pub(crate) fn steps_of(text: &str, limits: StepLimits) -> Result<TextSteps, TraceError>
+    requires some { 1 ≤ limits.pages }
+    requires few { limits.pages ≤ 262144 }
+    ensures steps { listed result ≡ steps_within limits text.now }
+    ensures row { IfOk result (HasRow limits.pages) }
 {
     let mut words: [&[u8]; MAX_WORDS] = [&[]; MAX_WORDS];
     let mut count = 0;
@@ -91,7 +93,7 @@ fn action_of(text: &str, pages: u32) -> Result<Action, TraceError>
         count += 1;
         left = rest;
     }
-    action_of_words(&words[..count], pages)
+    steps_of_words(&words[..count], limits)
 }
 
 // The number that a word is: 1 to 10 decimal digits.
@@ -115,6 +117,7 @@ fn number(word: &[u8]) -> Result<u64, TraceError>
 #[tactic(auto, unfolding(crate::specs::Words::number_in))]
 fn number_in(word: &[u8], low: u32, high: u32) -> Result<u32, TraceError>
     ensures value { result ≡ number_in low high word.now }
+    ensures least { IfOk result (λ n. low ≤ n) }
     ensures bound { IfOk result (λ n. n ≤ high) }
 {
     let number = number(word)?;
@@ -125,19 +128,38 @@ fn number_in(word: &[u8], low: u32, high: u32) -> Result<u32, TraceError>
     }
 }
 
-// The bytes that a word spells, at most `limit` of them.
+// Whether a word spells bytes, and at most so many, or its fault.
 #[tactic(auto, unfolding(crate::specs::Words::bytes_in))]
-fn bytes_in(word: &[u8], limit: usize) -> Result<Bytes, TraceError>
-    requires { limit ≤ MAX_BYTES }
-    ensures { result ≡ bytes_in limit word.now }
+fn check_hex(word: &[u8], most: usize) -> Result<(), TraceError>
+    ensures digits { OnOk result (is_hex word.now ≡ true) }
+    ensures fits { OnOk result (length word.now ≤ 2 * most) }
+    ensures bytes { OnOk result (bytes_in most word.now ≡ Ok (hex_pairs word.now)) }
+    ensures fault { (fault : TraceError) → result ≡ Err fault → bytes_in most word.now ≡ Err fault }
 {
     if !is_hex(word) {
         return Err(TraceError::Hex);
     }
-    if word.len() / 2 > limit {
+    if word.len() / 2 > most {
         return Err(TraceError::Length);
     }
+    Ok(())
+}
+
+// The bytes of a write that a word spells.
+fn bytes_in(word: &[u8]) -> Result<Bytes, TraceError>
+    ensures { result ≡ bytes_in 16 word.now }
+{
+    check_hex(word, MAX_ACCESS as usize)?;
     Ok(Bytes::from_hex(word))
+}
+
+// The bytes of a raw buffer that a word spells, at most `most` of them.
+fn buffer_in(word: &[u8], most: usize) -> Result<Buffer, TraceError>
+    requires { most ≤ MAX_BUFFER }
+    ensures { result ≡ bytes_in most word.now }
+{
+    check_hex(word, most)?;
+    Ok(Buffer::from_hex(word))
 }
 
 // r PAGE OFFSET LEN
@@ -167,7 +189,7 @@ fn write(page: &[u8], offset: &[u8], hex: &[u8], pages: u32) -> Result<Action, T
 {
     let page = number_in(page, 0, pages - 1)?;
     let offset = number_in(offset, 0, PAGE_BYTES - 1)?;
-    let bytes = bytes_in(hex, MAX_ACCESS as usize)?;
+    let bytes = bytes_in(hex)?;
     if offset + bytes.len() as u32 > PAGE_BYTES {
         return Err(TraceError::Range);
     }
@@ -211,28 +233,140 @@ pub(crate) fn queue_of(word: &[u8]) -> Result<Queue, TraceError>
     }
 }
 
-// p QUEUE HEX
+// p QUEUE HEX, of at most so many bytes
 #[tactic(auto, unfolding(crate::specs::Meaning::post_step))]
-fn post(queue: &[u8], hex: &[u8]) -> Result<Action, TraceError>
-    ensures { result ≡ post_step queue.now hex.now }
+fn post(queue: &[u8], hex: &[u8], most: usize) -> Result<Action, TraceError>
+    requires { most ≤ MAX_BUFFER }
+    ensures { result ≡ post_step most queue.now hex.now }
 {
     let queue = queue_of(queue)?;
-    let bytes = bytes_in(hex, MAX_BYTES)?;
+    let bytes = buffer_in(hex, most)?;
     Ok(Action::Post { queue, bytes })
+}
+
+// a N
+#[tactic(auto, unfolding(crate::specs::Meaning::actual_step))]
+fn actual(number: &[u8]) -> Result<Action, TraceError>
+    ensures { result ≡ actual_step number.now }
+{
+    let pages = number_in(number, 0, u32::MAX)?;
+    Ok(Action::Actual { pages })
+}
+
+// The action that a word alone is.
+#[tactic(auto, unfolding(crate::specs::Meaning::step_of_words))]
+fn action_of_letter(kind: &[u8], limits: StepLimits) -> Result<Action, TraceError>
+    ensures { result ≡ step_of_words limits (kind.now ∷ []) }
+{
+    if is_letter(kind, b'i') {
+        Ok(Action::Idle)
+    } else if limits.version_3 && is_letter(kind, b'y') {
+        Ok(Action::Yield)
+    } else {
+        Err(TraceError::Unknown)
+    }
+}
+
+// The action that two words are.
+#[tactic(auto, unfolding(crate::specs::Meaning::step_of_words))]
+fn action_of_number(kind: &[u8], number: &[u8], limits: StepLimits) -> Result<Action, TraceError>
+    requires { 1 ≤ limits.pages }
+    ensures { result ≡ step_of_words limits (kind.now ∷ number.now ∷ []) }
+{
+    if is_letter(kind, b'f') {
+        free(number, limits.pages)
+    } else if limits.version_3 && is_letter(kind, b'a') {
+        actual(number)
+    } else {
+        Err(TraceError::Unknown)
+    }
 }
 
 // The action that these words are.
 #[tactic(auto, unfolding(crate::specs::Meaning::step_of_words))]
-fn action_of_words(words: &[&[u8]], pages: u32) -> Result<Action, TraceError>
-    requires { 1 ≤ pages }
-    ensures { result ≡ step_of_words pages (map (λ word. word.now) words.now) }
+fn action_of_words(words: &[&[u8]], limits: StepLimits) -> Result<Action, TraceError>
+    requires { 1 ≤ limits.pages }
+    ensures { result ≡ step_of_words limits (map (λ word. word.now) words.now) }
 {
     match *words {
-        [kind] if is_letter(kind, b'i') => Ok(Action::Idle),
-        [kind, page] if is_letter(kind, b'f') => free(page, pages),
-        [kind, queue, hex] if is_letter(kind, b'p') => post(queue, hex),
-        [kind, page, offset, len] if is_letter(kind, b'r') => read(page, offset, len, pages),
-        [kind, page, offset, hex] if is_letter(kind, b'w') => write(page, offset, hex, pages),
+        [kind] => action_of_letter(kind, limits),
+        [kind, number] => action_of_number(kind, number, limits),
+        [kind, queue, hex] if is_letter(kind, b'p') => post(queue, hex, most_posted(limits)),
+        [kind, page, offset, len] if is_letter(kind, b'r') => read(page, offset, len, limits.pages),
+        [kind, page, offset, hex] if is_letter(kind, b'w') => write(
+            page,
+            offset,
+            hex,
+            limits.pages,
+        ),
         _ => Err(TraceError::Unknown),
+    }
+}
+
+// PAGE COUNT
+#[tactic(auto, unfolding(crate::specs::Meaning::steps_on))]
+fn row(page: &[u8], count: &[u8], pages: u32) -> Result<Row, TraceError>
+    requires some { 1 ≤ pages }
+    requires few { pages ≤ 262144 }
+    ensures steps { (step : ℕ → Step) → on_row step result ≡ steps_on pages step page.now count.now }
+    ensures row { IfOk result (IsRow pages) }
+{
+    let page = number_in(page, 0, pages - 1)?;
+    let count = number_in(count, 1, pages)?;
+    if page + count > pages {
+        return Err(TraceError::Range);
+    }
+    Ok(Row { page, count })
+}
+
+// One step alone.
+fn alone(words: &[&[u8]], limits: StepLimits) -> Result<TextSteps, TraceError>
+    requires { 1 ≤ limits.pages }
+    ensures steps { listed result ≡ alone (step_of_words limits (map (λ word. word.now) words.now)) }
+    ensures row { IfOk result (HasRow limits.pages) }
+{
+    let action = action_of_words(words, limits)?;
+    Ok(TextSteps::One(action))
+}
+
+// t PAGE COUNT
+fn touches(page: &[u8], count: &[u8], pages: u32) -> Result<TextSteps, TraceError>
+    requires some { 1 ≤ pages }
+    requires few { pages ≤ 262144 }
+    ensures steps { listed result ≡ steps_on pages Touch page.now count.now }
+    ensures row { IfOk result (HasRow pages) }
+{
+    let row = row(page, count, pages)?;
+    Ok(TextSteps::Touches(row))
+}
+
+// f PAGE COUNT
+fn frees(page: &[u8], count: &[u8], pages: u32) -> Result<TextSteps, TraceError>
+    requires some { 1 ≤ pages }
+    requires few { pages ≤ 262144 }
+    ensures steps { listed result ≡ steps_on pages Free page.now count.now }
+    ensures row { IfOk result (HasRow pages) }
+{
+    let row = row(page, count, pages)?;
+    Ok(TextSteps::Frees(row))
+}
+
+// The steps that these words are.
+#[tactic(auto, using(crate::proofs::WordCounts::three_steps, crate::proofs::WordCounts::not_three))]
+fn steps_of_words(words: &[&[u8]], limits: StepLimits) -> Result<TextSteps, TraceError>
+    requires some { 1 ≤ limits.pages }
+    requires few { limits.pages ≤ 262144 }
+    ensures steps { listed result ≡ steps_of_words limits (map (λ word. word.now) words.now) }
+    ensures row { IfOk result (HasRow limits.pages) }
+{
+    let [kind, page, count] = *words else {
+        return alone(words, limits);
+    };
+    if limits.version_3 && is_letter(kind, b't') {
+        touches(page, count, limits.pages)
+    } else if limits.version_3 && is_letter(kind, b'f') {
+        frees(page, count, limits.pages)
+    } else {
+        alone(words, limits)
     }
 }

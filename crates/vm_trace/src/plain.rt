@@ -1,14 +1,16 @@
-// Reads steps that are spelled plainly, in one pass and without a list of their words: raw buffers, and reads and writes whose page
-// has at most 6 digits, their offset 4 and their length 2.
+// Reads texts that are spelled plainly, in one pass and without a list of their words: raw buffers, letters alone, reads and writes
+// whose page has at most 6 digits, their offset 4 and their length 2, and touches and frees, whose page has at most 6 digits and their
+// count 8.
 ghost use Rattle.std.specs.Prelude.{◌≡◌, ◌≤◌, ℕ, List, ◌∷◌, None, length, true, IfOk, IfSome, OnErr, IsTrue};
 ghost use Rattle.vm_trace.specs.Limits.{IsAccess};
 ghost use Rattle.vm_trace.specs.Spelling.{IsNumeral};
-ghost use Rattle.vm_trace.specs.Entering.{IsDecimal, IsField, IsPlace, IsEntered, IsEnteredAt};
+ghost use Rattle.vm_trace.specs.Entering.{IsDecimal, IsField, IsPlace, IsRowOf, IsEntered, IsEnteredAt};
 
-use crate::bytes::MAX_BYTES;
 use crate::entering::{keep_hex, keep_pairs};
-use crate::entry::Entry;
+use crate::entry::Item;
+use crate::limits::{StepLimits, most_posted};
 use crate::parse::{MAX_ACCESS, PAGE_BYTES, queue_of};
+use crate::text_steps::Row;
 use std::alloc::AllocError;
 
 // The most digits of a page that is read plainly: so many have all pages of the greatest guest.
@@ -16,6 +18,9 @@ const PAGE_DIGITS: usize = 6;
 
 // The most digits of an offset that is read plainly.
 const OFFSET_DIGITS: usize = 4;
+
+// The most digits of a number that is read plainly where it ends the text.
+const LAST_DIGITS: usize = 8;
 
 // A number in front of a text, and what stands behind its space.
 #[derive(Clone, Copy)]
@@ -88,6 +93,22 @@ fn last(text: &[u8]) -> Option<u32>
     }
 }
 
+// The number of at most 8 digits that a text is.
+#[inline(always)]
+fn number_alone(text: &[u8]) -> Option<u32>
+    ensures { IfSome result (λ n. IsNumeral text.now n) }
+{
+    if text.is_empty() || text.len() > LAST_DIGITS {
+        return None;
+    }
+    let mut number = 0;
+    for place in 0..text.len() {
+        let digit = decimal(text[place])?;
+        number = 10 * number + digit;
+    }
+    Some(number)
+}
+
 // PAGE OFFSET in front of a text.
 #[inline(always)]
 fn place_in_front(text: &[u8], pages: u32) -> Option<Place<'_>>
@@ -112,26 +133,42 @@ fn is_access(offset: u32, len: usize) -> bool
     1 <= len && len <= MAX_ACCESS as usize && offset as usize + len <= PAGE_BYTES as usize
 }
 
-// The entry of PAGE OFFSET LEN, behind the letter of a read.
+// PAGE COUNT, which the text is.
 #[inline(always)]
-fn read(place: Place<'_>) -> Option<Entry>
-    ensures { IfSome result (λ entry. (bytes : List ℕ) → IsEnteredAt 114 place.entry.page place.entry.offset place.entry.rest.now bytes bytes entry) }
+fn plain_row(text: &[u8], pages: u32) -> Option<Row>
+    ensures { IfSome result (IsRowOf pages text.now) }
+{
+    let page = number_before_space(text, PAGE_DIGITS)?;
+    let count = number_alone(page.rest)?;
+    if count == 0 || page.number >= pages || count > pages - page.number {
+        return None;
+    }
+    Some(Row {
+        page: page.number,
+        count,
+    })
+}
+
+// The item of PAGE OFFSET LEN, behind the letter of a read.
+#[inline(always)]
+fn read(place: Place<'_>) -> Option<Item>
+    ensures { IfSome result (λ item. (bytes : List ℕ) → IsEnteredAt 114 place.entry.page place.entry.offset place.entry.rest.now bytes bytes item) }
 {
     let len = last(place.rest)?;
     if !is_access(place.offset, len as usize) {
         return None;
     }
-    Some(Entry::Read {
-        page: place.page,
-        offset: place.offset as u16,
+    Some(Item::Read {
         len: len as u8,
+        offset: place.offset as u16,
+        page: place.page,
     })
 }
 
-// The entry of PAGE OFFSET HEX, behind the letter of a write, whose bytes are put behind the others.
+// The item of PAGE OFFSET HEX, behind the letter of a write, whose bytes are put behind the others.
 #[inline(always)]
-fn write(store: &mut Vec<u8>, place: Place<'_>) -> Result<Option<Entry>, AllocError>
-    ensures entry { IfOk result (λ found. IfSome found (IsEnteredAt 119 place.entry.page place.entry.offset place.entry.rest.now store.old.items store.new.items)) }
+fn write(store: &mut Vec<u8>, place: Place<'_>) -> Result<Option<Item>, AllocError>
+    ensures item { IfOk result (λ found. IfSome found (IsEnteredAt 119 place.entry.page place.entry.offset place.entry.rest.now store.old.items store.new.items)) }
     ensures none { IfOk result (λ found. found ≡ None → store.new.items ≡ store.old.items) }
     ensures err { OnErr result (store.new.items ≡ store.old.items) }
 {
@@ -142,17 +179,17 @@ fn write(store: &mut Vec<u8>, place: Place<'_>) -> Result<Option<Entry>, AllocEr
     let Some(start) = keep_hex(store, place.rest)? else {
         return Ok(None);
     };
-    Ok(Some(Entry::Write {
+    Ok(Some(Item::Write {
+        len: len as u8,
+        offset: place.offset as u16,
         page: place.page,
         start,
-        offset: place.offset as u16,
-        len: len as u8,
     }))
 }
 
-// The entry of a raw buffer, p QUEUE HEX, whose bytes are put behind the others.
-fn post(store: &mut Vec<u8>, text: &[u8]) -> Result<Option<Entry>, AllocError>
-    ensures entry { IfOk result (λ found. IfSome found (λ entry. (pages : ℕ) → IsEntered pages text.now store.old.items store.new.items entry)) }
+// The item of a raw buffer, p QUEUE HEX, whose bytes are put behind the others.
+fn post(store: &mut Vec<u8>, text: &[u8], limits: StepLimits) -> Result<Option<Item>, AllocError>
+    ensures item { IfOk result (λ found. IfSome found (IsEntered limits text.now store.old.items store.new.items)) }
     ensures none { IfOk result (λ found. found ≡ None → store.new.items ≡ store.old.items) }
     ensures err { OnErr result (store.new.items ≡ store.old.items) }
 {
@@ -163,36 +200,104 @@ fn post(store: &mut Vec<u8>, text: &[u8]) -> Result<Option<Entry>, AllocError>
         return Ok(None);
     };
     let len = digits.len() / 2;
-    if len == 0 || len > MAX_BYTES {
+    if len == 0 || len > most_posted(limits) {
         return Ok(None);
     }
     let Some(start) = keep_pairs(store, digits)? else {
         return Ok(None);
     };
-    Ok(Some(Entry::Post {
+    Ok(Some(Item::Post {
         queue,
+        len: len as u16,
         start,
-        len: len as u8,
     }))
 }
 
-// The entry of a step that is spelled plainly, and `None` for another text, which need not be faulty.
-pub(crate) fn plain_entry(
+// The item of a letter alone.
+fn letter(text: &[u8], limits: StepLimits) -> Option<Item>
+    ensures { IfSome result (λ item. (bytes : List ℕ) → IsEntered limits text.now bytes bytes item) }
+{
+    match *text {
+        [b'i'] => Some(Item::Idle),
+        [b'y'] if limits.version_3 => Some(Item::Yield),
+        _ => None,
+    }
+}
+
+// The item of t PAGE COUNT, with the rest of the text behind its letter.
+fn touches(rest: &[u8], limits: StepLimits) -> Option<Item>
+    ensures { IfSome result (λ item. (bytes : List ℕ) → IsEntered limits (116 ∷ 32 ∷ rest.now) bytes bytes item) }
+{
+    if !limits.version_3 {
+        return None;
+    }
+    let row = plain_row(rest, limits.pages)?;
+    Some(Item::Touch {
+        page: row.page,
+        count: row.count,
+    })
+}
+
+// The item of f PAGE, with the rest of the text behind its letter.
+fn free(rest: &[u8], limits: StepLimits) -> Option<Item>
+    ensures { IfSome result (λ item. (bytes : List ℕ) → IsEntered limits (102 ∷ 32 ∷ rest.now) bytes bytes item) }
+{
+    let page = number_alone(rest)?;
+    if page >= limits.pages {
+        return None;
+    }
+    Some(Item::Free { page, count: 1 })
+}
+
+// The item of f PAGE or f PAGE COUNT, with the rest of the text behind its letter.
+fn frees(rest: &[u8], limits: StepLimits) -> Option<Item>
+    ensures { IfSome result (λ item. (bytes : List ℕ) → IsEntered limits (102 ∷ 32 ∷ rest.now) bytes bytes item) }
+{
+    if let Some(item) = free(rest, limits) {
+        return Some(item);
+    }
+    if !limits.version_3 {
+        return None;
+    }
+    let row = plain_row(rest, limits.pages)?;
+    Some(Item::Free {
+        page: row.page,
+        count: row.count,
+    })
+}
+
+// The item of a N, with the rest of the text behind its letter.
+fn actual(rest: &[u8], limits: StepLimits) -> Option<Item>
+    ensures { IfSome result (λ item. (bytes : List ℕ) → IsEntered limits (97 ∷ 32 ∷ rest.now) bytes bytes item) }
+{
+    if !limits.version_3 {
+        return None;
+    }
+    let pages = number_alone(rest)?;
+    Some(Item::Actual { pages })
+}
+
+// The item of a text that is spelled plainly, and `None` for another text, which need not be faulty.
+pub(crate) fn plain_item(
     store: &mut Vec<u8>,
     text: &[u8],
-    pages: u32,
-) -> Result<Option<Entry>, AllocError>
-    ensures entry { IfOk result (λ found. IfSome found (IsEntered pages text.now store.old.items store.new.items)) }
+    limits: StepLimits,
+) -> Result<Option<Item>, AllocError>
+    ensures item { IfOk result (λ found. IfSome found (IsEntered limits text.now store.old.items store.new.items)) }
     ensures none { IfOk result (λ found. found ≡ None → store.new.items ≡ store.old.items) }
     ensures err { OnErr result (store.new.items ≡ store.old.items) }
 {
     let [kind, b' ', rest @ ..] = text else {
-        return Ok(None);
+        return Ok(letter(text, limits));
     };
-    if *kind == b'p' {
-        return post(store, text);
+    match *kind {
+        b'p' => return post(store, text, limits),
+        b't' => return Ok(touches(rest, limits)),
+        b'f' => return Ok(frees(rest, limits)),
+        b'a' => return Ok(actual(rest, limits)),
+        _ => {}
     }
-    let Some(place) = place_in_front(rest, pages) else {
+    let Some(place) = place_in_front(rest, limits.pages) else {
         return Ok(None);
     };
     match *kind {

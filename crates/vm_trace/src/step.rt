@@ -1,6 +1,8 @@
 // A step of a trace: an action, and its limits.
 ghost use Rattle.std.specs.Prelude.{◌≡◌, ◌↔◌, IsTrue};
+ghost use Rattle.vm_trace.specs.Sized.{is_within};
 
+use crate::buffer::Buffer;
 use crate::bytes::Bytes;
 use std::marker::Model;
 
@@ -30,21 +32,31 @@ pub enum Action {
         offset: u16,
         bytes: Bytes,
     },
+    /// Touches a page, and neither reads nor writes it.
+    Touch {
+        page: u32,
+    },
     /// Frees a page.
     Free {
         page: u32,
     },
     /// Does nothing.
     Idle,
+    /// Does nothing, and nothing more in this epoch.
+    Yield,
     /// Posts a raw buffer to a queue, as a driver of its own would.
     Post {
         queue: Queue,
-        bytes: Bytes,
+        bytes: Buffer,
+    },
+    /// Tells how many pages are in the balloon, as a driver of its own would: writes the device's `actual`.
+    Actual {
+        pages: u32,
     },
 }
 
 /// An action within the limits of a step: its page is below 262144, a read or a write is of 1 to 16 bytes of that
-/// page, and a raw buffer has 1 to 64 bytes. A clause reads a step as its action.
+/// page, and a raw buffer has 1 to 1024 bytes. A clause reads a step as its action.
 #[derive(Clone, Copy, Debug, PartialEq, Eq)]
 pub struct Step {
     action: Action,
@@ -86,12 +98,22 @@ impl Step {
     pub fn is_within(&self, pages: u32) -> bool
         ensures { IsTrue result ↔ IsWithin pages self.now }
     {
-        match self.action {
-            Action::Read { page, .. } => page < pages,
-            Action::Write { page, .. } => page < pages,
-            Action::Free { page } => page < pages,
-            Action::Idle => true,
-            Action::Post { .. } => true,
-        }
+        is_within(&self.action, pages)
+    }
+}
+
+// Whether the action's page, if it has one, is below the size.
+pub(crate) fn is_within(action: &Action, pages: u32) -> bool
+    ensures { result ≡ is_within pages action.now }
+{
+    match *action {
+        Action::Read { page, .. } => page < pages,
+        Action::Write { page, .. } => page < pages,
+        Action::Touch { page } => page < pages,
+        Action::Free { page } => page < pages,
+        Action::Idle => true,
+        Action::Yield => true,
+        Action::Post { .. } => true,
+        Action::Actual { .. } => true,
     }
 }

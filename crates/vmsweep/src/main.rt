@@ -1,6 +1,6 @@
 //! Runs the configuration on standard input once for each combination of listed values, and writes a table with a record for each
 //! run, or for each run and guest, or a drawing to standard output: `vmsweep [--frames LIST] [--swap LIST] [--tax LIST]
-//! [--page-rate LIST] [--guests | --svg] [--progress] [--workers N]`.
+//! [--page-rate LIST] [--rebalance LIST] [--guests | --svg] [--progress] [--workers N]`.
 #![tactic(auto)]
 
 use std::process::ExitCode;

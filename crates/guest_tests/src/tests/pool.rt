@@ -34,6 +34,8 @@ fn guest_of(size: u32, min: u32, trace: Trace) -> GuestSpec
         seed: 0,
         stream: 0,
         tell: true,
+        own_driver: true,
+        page: 4,
         trace,
     }
 }

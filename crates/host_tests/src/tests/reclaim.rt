@@ -16,6 +16,13 @@ use vm_trace::Trace;
 
 // How a machine of 100 frames decides.
 fn numbers() -> Numbers {
+    numbers_with(0)
+}
+
+// The same, where so many pages may move at a boundary.
+fn numbers_with(rebalance: u32) -> Numbers
+    requires { rebalance ≤ 262144 }
+{
     let machine = MachineSpec {
         frames: 100,
         swap: 98,
@@ -28,6 +35,8 @@ fn numbers() -> Numbers {
             low: 100,
         },
         page_rate: 16,
+        rebalance,
+        page: 4,
     };
     numbers_of(&machine)
 }
@@ -51,6 +60,8 @@ fn guest_of(alloc: Global, size: u32, min: u32, shares: u32) -> GuestSpec
         seed: 0,
         stream: 0,
         tell: true,
+        own_driver: true,
+        page: 4,
         trace: Trace::new(alloc),
     }
 }
@@ -140,6 +151,7 @@ struct Told {
     free: u32,
     revoked: [usize; 2],
     granted: [usize; 2],
+    rebalanced: [usize; 2],
     // How many frames the first guest gave up by paging.
     paged: u32,
     // Whether the first guest is blocked.
@@ -165,6 +177,7 @@ fn settle(
         free,
         revoked: counts_of(&plan.revoked),
         granted: counts_of(&plan.granted),
+        rebalanced: counts_of(&plan.rebalanced),
         paged: paged_by(plan.paged.as_slice()),
         blocked: plan.blocked.as_slice() == [0].as_slice(),
     }
@@ -177,6 +190,7 @@ fn quiet(state: State, free: u32) -> Told {
         free,
         revoked: [0, 0],
         granted: [0, 0],
+        rebalanced: [0, 0],
         paged: 0,
         blocked: false,
     }
@@ -236,6 +250,41 @@ fn frames_given_up_are_granted(rt: HostRuntime) {
     check_told(&rt, second, wanted);
     check_frames(&rt, &pool, 0, (90, 90));
     check_frames(&rt, &pool, 1, (9, 9));
+    pool.close();
+}
+
+// Idle pages go to a guest that would pay more, and no more of them while these are on their way.
+#[test]
+fn idle_memory_moves(rt: HostRuntime) {
+    let alloc = rt.alloc();
+    let numbers = numbers_with(16);
+    let mut pool = pool_of(
+        &rt,
+        100,
+        guest_of(alloc, 100, 10, 1000),
+        guest_of(alloc, 100, 10, 1000),
+    );
+    start_within(&rt, &mut pool, 0);
+    start_within(&rt, &mut pool, 1);
+    let first = settle(&rt, &numbers, &mut pool, State::High);
+    check_eq(&rt, first.granted, [38, 38]);
+    check_eq(&rt, first.rebalanced, [0, 0]);
+
+    // At equal prices nothing moved.
+    assert!(rt; 1 < pool.len());
+    pool.set_shares(1, 3000);
+    let second = settle(&rt, &numbers, &mut pool, first.state);
+    let wanted = Told {
+        rebalanced: [16, 0],
+        ..quiet(State::High, 4)
+    };
+    check_told(&rt, second, wanted);
+    check_frames(&rt, &pool, 0, (32, 48));
+    check_frames(&rt, &pool, 1, (48, 48));
+
+    // The first guest still holds what it is to return.
+    let third = settle(&rt, &numbers, &mut pool, second.state);
+    check_told(&rt, third, quiet(State::High, 4));
     pool.close();
 }
 

@@ -4,7 +4,7 @@ use vm_commands::{Command, Domain, LineFault, parse_line};
 
 #[test]
 fn a_domain_gives_its_word_back(rt: HostRuntime) {
-    let command = parse_line(rt.alloc(), "start web").expect(&rt, "a command");
+    let command = parse_line(rt.alloc(), "start web", 4).expect(&rt, "a command");
     let Command::Start { domain } = command else {
         panic!(rt; "no start");
     };

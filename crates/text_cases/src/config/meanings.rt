@@ -46,7 +46,7 @@ impl<'a> Case<'a> {
     }
 }
 
-/// The configuration of a text, as the reader of version 1 or as that of both versions reads it.
+/// The configuration of a text, as the reader of version 1 or as that of all versions reads it.
 fn read(alloc: Global, newest: u64, text: &str) -> Result<Config, ConfigError> {
     if newest == 1 {
         let written = read_config_v1(alloc, text.as_bytes())?;
@@ -61,11 +61,12 @@ fn root_words(alloc: Global, config: &Config) -> Result<String, AllocError> {
     let percent = machine.percent;
     let (frames, swap, overhead) = (machine.frames, machine.swap, machine.overhead);
     let (tax, page_rate, epochs) = (machine.tax, machine.page_rate, config.epochs);
+    let (rebalance, page) = (machine.rebalance, machine.page);
     let (high, soft, hard, low) = (percent.high, percent.soft, percent.hard, percent.low);
     let (guests, commands) = (config.domains.len(), config.commands.lines().len());
     format!(in alloc;
         "frames {frames}, swap {swap}, overhead {overhead}, tax {tax}, percent {high} {soft} {hard} {low}, page_rate {page_rate}, \
-epochs {epochs}, guests {guests}, commands {commands}"
+rebalance {rebalance}, page {page}, epochs {epochs}, guests {guests}, commands {commands}"
     )
 }
 
@@ -79,9 +80,10 @@ fn guest_words(
     let (size, min, shares, quantum) = (guest.size, guest.min, guest.shares, guest.quantum);
     let (samples, period, rate) = (guest.samples, guest.period, guest.rate);
     let (seed, stream, tell, steps) = (guest.seed, guest.stream, guest.tell, guest.trace.len());
+    let (driver, page) = (if guest.own_driver { "own" } else { "none" }, guest.page);
     format!(in alloc;
         "name {name}, size {size}, min {min}, shares {shares}, samples {samples}, period {period}, rate {rate}, quantum {quantum}, \
-seed {seed}, stream {stream}, autostart {autostart}, tell {tell}, steps {steps}"
+seed {seed}, stream {stream}, autostart {autostart}, tell {tell}, driver {driver}, page {page}, steps {steps}"
     )
 }
 

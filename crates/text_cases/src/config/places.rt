@@ -34,14 +34,14 @@ fn further(alloc: Global, keys: &str) -> Result<String, AllocError> {
     format!(in alloc; ",{keys}")
 }
 
-/// A configuration of version 2 with two guests of 4 pages and two commands, and with these keys. Of a key that comes twice the last
+/// A configuration of version 3 with two guests of 4 pages and two commands, and with these keys. Of a key that comes twice the last
 /// one counts.
 fn text_of(alloc: Global, case: &Case<'_>) -> Result<String, AllocError> {
     let root = further(alloc, case.root)?;
     let guest = further(alloc, case.guest)?;
     let command = further(alloc, case.command)?;
     format!(in alloc;
-        "{{\"version\":2,\"frames\":10,\"epochs\":1,\"guests\":[{{\"name\":\"a\",\"size\":4,\"min\":1}},\
+        "{{\"version\":3,\"frames\":10,\"epochs\":1,\"guests\":[{{\"name\":\"a\",\"size\":4,\"min\":1}},\
 {{\"name\":\"b\",\"size\":4,\"min\":1{guest}}}],\
 \"commands\":[{{\"at\":0,\"line\":\"x\"}},{{\"at\":0,\"line\":\"x\"{command}}}]{root}}}"
     )

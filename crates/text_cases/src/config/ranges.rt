@@ -4,14 +4,21 @@ use crate::config::templates::{Part, with_keys};
 use crate::table::{Columns, Outcome};
 use std::alloc::{AllocError, Global};
 
-/// The range of a key in both versions.
+/// The range of a key: the least number, and the greatest one of each version that knows the key.
 #[derive(Drop)]
 struct Case<'a> {
     part: Part,
     key: &'a str,
     least: u64,
-    greatest_1: u64,
-    greatest_2: u64,
+    greatest: [Option<u64>; 3],
+}
+
+/// The greatest number of a version. `-` is none: it does not know the key.
+fn greatest_of(column: &str) -> Option<Option<u64>> {
+    if column == "-" {
+        return Some(None);
+    }
+    Some(Some(column.parse::<u64>().ok()?))
 }
 
 impl<'a> Case<'a> {
@@ -21,8 +28,11 @@ impl<'a> Case<'a> {
             part: Part::of(columns.text()?)?,
             key: columns.text()?,
             least: columns.number()?,
-            greatest_1: columns.number()?,
-            greatest_2: columns.number()?,
+            greatest: [
+                greatest_of(columns.text()?)?,
+                greatest_of(columns.text()?)?,
+                greatest_of(columns.text()?)?,
+            ],
         };
         columns.end()?;
         Some(case)
@@ -45,13 +55,16 @@ impl<'a> Case<'a> {
         }
     }
 
-    /// Tries both ends of the range in a version, and the numbers beside them. The answer is the first difference.
+    /// Tries both ends of the range in a version that knows the key, and the numbers beside them. The answer is the first difference.
     fn difference(
         &self,
         alloc: Global,
         version: u64,
-        greatest: u64,
+        greatest: Option<u64>,
     ) -> Result<Option<String>, AllocError> {
+        let Some(greatest) = greatest else {
+            return Ok(None);
+        };
         let below = self.least.checked_sub(1);
         let above = greatest.checked_add(1);
         let inside = String::from_str(alloc, "ok")?;
@@ -79,7 +92,8 @@ pub(crate) fn outcome(alloc: Global, line: &str) -> Result<Outcome, AllocError> 
     let Some(case) = Case::of(line) else {
         return Ok(Outcome::Malformed);
     };
-    for (version, greatest) in [(1, case.greatest_1), (2, case.greatest_2)] {
+    let [first, second, third] = case.greatest;
+    for (version, greatest) in [(1, first), (2, second), (3, third)] {
         if let Some(told) = case.difference(alloc, version, greatest)? {
             return Ok(Outcome::Differs(told));
         }

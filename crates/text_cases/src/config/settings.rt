@@ -5,7 +5,7 @@ use vm_config::{Config, Setting, read_config};
 
 /// The configuration whose settings are given values.
 const TEXT: &str =
-    "{\"version\":2,\"frames\":9,\"swap\":8,\"tax\":6,\"page_rate\":10,\"epochs\":12,\"guests\":[]}";
+    "{\"version\":3,\"frames\":9,\"swap\":8,\"tax\":6,\"page_rate\":10,\"rebalance\":7,\"epochs\":12,\"guests\":[]}";
 
 /// A value for a setting.
 #[derive(Drop)]
@@ -35,6 +35,7 @@ fn setting_of(key: &str) -> Option<Setting> {
         "swap" => Some(Setting::Swap),
         "tax" => Some(Setting::Tax),
         "page_rate" => Some(Setting::PageRate),
+        "rebalance" => Some(Setting::Rebalance),
         _ => None,
     }
 }
@@ -61,7 +62,10 @@ fn with_values(alloc: Global, told: &str, config: &Config) -> Result<String, All
     let swap = config.setting(Setting::Swap);
     let tax = config.setting(Setting::Tax);
     let page_rate = config.setting(Setting::PageRate);
-    format!(in alloc; "{told}: frames {frames}, swap {swap}, tax {tax}, page_rate {page_rate}")
+    let rebalance = config.setting(Setting::Rebalance);
+    format!(in alloc;
+        "{told}: frames {frames}, swap {swap}, tax {tax}, page_rate {page_rate}, rebalance {rebalance}"
+    )
 }
 
 /// Tries a line.

@@ -95,7 +95,8 @@ fn told_moves(alloc: Global, plan: &Plan) -> Result<String, AllocError> {
     Ok(out)
 }
 
-fn told_stretches(alloc: Global, plan: &Plan) -> Result<String, AllocError> {
+/// The stretches of a plan, as a table has them.
+pub(crate) fn told_stretches(alloc: Global, plan: &Plan) -> Result<String, AllocError> {
     let mut out = String::new(alloc);
     for stretch in plan.stretches() {
         write!(out, "{}x{} ", stretch.position, stretch.count)?;

@@ -27,8 +27,11 @@ fn words_without_bytes(alloc: Global, kind: StepKind) -> Result<String, AllocErr
             format!(in alloc; "read page {page} offset {offset} length {len}")
         }
         StepKind::Write { page, offset } => format!(in alloc; "write page {page} offset {offset}"),
+        StepKind::Touch { page } => format!(in alloc; "touch page {page}"),
         StepKind::Free { page } => format!(in alloc; "free page {page}"),
         StepKind::Idle => String::from_str(alloc, "idle"),
+        StepKind::Yield => String::from_str(alloc, "yield"),
+        StepKind::Actual { pages } => format!(in alloc; "actual {pages}"),
         StepKind::Post { queue } => {
             let queue = queue_name(queue);
             format!(in alloc; "post {queue}")
@@ -61,8 +64,11 @@ pub(crate) fn words_of(alloc: Global, action: Action) -> Result<String, AllocErr
             offset,
             bytes,
         } => { words_of_kind(alloc, StepKind::Write { page, offset }, bytes.as_slice()) }
+        Action::Touch { page } => words_of_kind(alloc, StepKind::Touch { page }, &[]),
         Action::Free { page } => words_of_kind(alloc, StepKind::Free { page }, &[]),
         Action::Idle => words_of_kind(alloc, StepKind::Idle, &[]),
+        Action::Yield => words_of_kind(alloc, StepKind::Yield, &[]),
+        Action::Actual { pages } => words_of_kind(alloc, StepKind::Actual { pages }, &[]),
         Action::Post { queue, bytes } => {
             words_of_kind(alloc, StepKind::Post { queue }, bytes.as_slice())
         }

@@ -3,7 +3,7 @@ use crate::pairs::Pair;
 use crate::table::Outcome;
 use crate::trace::steps::told_fault;
 use std::alloc::{AllocError, Global};
-use vm_trace::{PushError, Trace};
+use vm_trace::{PushError, StepLimits, Trace};
 
 /// Pairs of hexadecimal digits, in which each digit comes.
 const PAIRS: [&str; 11] = [
@@ -34,7 +34,11 @@ fn post_with(alloc: Global, before: usize, characters: &str) -> Result<String, A
 /// What comes of a step that is added to an empty trace.
 fn came(alloc: Global, text: &str) -> Result<String, AllocError> {
     let mut trace = Trace::new(alloc);
-    let pushed = trace.push_text(text, 65_536, 8);
+    let limits = StepLimits {
+        pages: 65_536,
+        version_3: false,
+    };
+    let pushed = trace.push_text(text, limits, 8);
     if !trace.is_empty() {
         return String::from_str(alloc, "a step is added");
     }

@@ -3,7 +3,7 @@ use crate::pairs::Pair;
 use crate::table::Outcome;
 use crate::trace::actions::words_at;
 use std::alloc::{AllocError, Global};
-use vm_trace::{PushError, Trace, parse_step_within};
+use vm_trace::{PushError, StepLimits, Trace, parse_step_within};
 
 /// What stands between two steps.
 const SEPARATOR: &str = "; ";
@@ -11,8 +11,14 @@ const SEPARATOR: &str = "; ";
 /// The pages of the greatest guest.
 const PAGES: u32 = 262_144;
 
+/// What version 2 allows.
+const LIMITS: StepLimits = StepLimits {
+    pages: PAGES,
+    version_3: false,
+};
+
 /// What the steps of a trace do, and that none is behind them.
-fn words(alloc: Global, trace: &Trace) -> Result<String, AllocError> {
+pub(crate) fn words(alloc: Global, trace: &Trace) -> Result<String, AllocError> {
     if trace.is_empty() {
         return String::from_str(alloc, "no steps");
     }
@@ -44,7 +50,7 @@ fn words_by_step(alloc: Global, steps: &str) -> Result<String, PushError> {
 fn added(alloc: Global, steps: &str) -> Result<Trace, PushError> {
     let mut trace = Trace::new(alloc);
     for text in steps.split(SEPARATOR) {
-        trace.push_text(text, PAGES, PAGES)?;
+        trace.push_text(text, LIMITS, PAGES)?;
     }
     Ok(trace)
 }
@@ -60,7 +66,7 @@ fn words_by_text(alloc: Global, steps: &str) -> Result<String, PushError> {
 fn words_of_copy(alloc: Global, steps: &str) -> Result<String, PushError> {
     let mut trace = added(alloc, steps)?;
     let copy = trace.clone()?;
-    trace.push_text("w 0 0 00", PAGES, 1)?;
+    trace.push_text("w 0 0 00", LIMITS, 1)?;
     let words = if trace.len() == usize::saturating_add(copy.len(), 1) {
         words(alloc, &copy)?
     } else {

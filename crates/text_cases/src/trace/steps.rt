@@ -1,14 +1,18 @@
 // Steps of traces: what each does, or its first fault.
-use crate::table::{Columns, Outcome};
-use crate::trace::actions::{words_at, words_of};
-use std::alloc::{AllocError, Global};
-use vm_trace::{PushError, Step, Trace, TraceError, parse_step, parse_step_within};
+ghost use Rattle.std.specs.Prelude.{◌≤◌};
 
-/// A version of configurations, which has a greatest guest.
+use crate::table::{Columns, Outcome};
+use crate::trace::actions::words_of;
+use crate::trace::orders::words;
+use std::alloc::{AllocError, Global};
+use vm_trace::{PushError, Step, StepLimits, Trace, TraceError, parse_step, parse_step_within};
+
+/// A version of configurations, which has a greatest guest, and steps that it reads.
 #[derive(Clone, Copy)]
 pub(crate) enum Version {
     One,
     Two,
+    Three,
 }
 
 impl Version {
@@ -16,24 +20,44 @@ impl Version {
         match number {
             1 => Some(Version::One),
             2 => Some(Version::Two),
+            3 => Some(Version::Three),
             _ => None,
         }
     }
 
-    /// The step of a text, for the greatest guest.
-    fn parse(self, text: &str) -> Result<Step, TraceError> {
+    /// The step of a text by itself, for the greatest guest; none in version 3, in which a text may be many steps.
+    fn parse(self, text: &str) -> Option<Result<Step, TraceError>> {
         match self {
-            Version::One => parse_step(text),
-            Version::Two => parse_step_within(text, 262_144),
+            Version::One => Some(parse_step(text)),
+            Version::Two => Some(parse_step_within(text, 262_144)),
+            Version::Three => None,
         }
     }
 
-    /// Adds the step of a text to the trace of a guest of this size.
-    fn push(self, trace: &mut Trace, text: &str, size: u32) -> Result<(), PushError> {
+    /// What it allows in the text of a step.
+    fn limits(self) -> StepLimits
+        ensures some { 1 ≤ result.pages }
+        ensures few { result.pages ≤ 262144 }
+    {
         match self {
-            Version::One => trace.push_text(text, 65_536, size),
-            Version::Two => trace.push_text(text, 262_144, size),
+            Version::One => StepLimits {
+                pages: 65_536,
+                version_3: false,
+            },
+            Version::Two => StepLimits {
+                pages: 262_144,
+                version_3: false,
+            },
+            Version::Three => StepLimits {
+                pages: 262_144,
+                version_3: true,
+            },
         }
+    }
+
+    /// Adds the steps of a text to the trace of a guest of this size.
+    fn push(self, trace: &mut Trace, text: &str, size: u32) -> Result<(), PushError> {
+        trace.push_text(text, self.limits(), size)
     }
 }
 
@@ -66,9 +90,13 @@ pub(crate) fn told_fault(alloc: Global, fault: TraceError) -> Result<String, All
     format!(in alloc; "{number} {fault}")
 }
 
-/// What the step by itself does, whose page is then to be one of the guest's.
-fn came_alone(alloc: Global, case: &Case<'_>) -> Result<String, AllocError> {
-    match case.version.parse(case.text) {
+/// What the step of a text by itself does, whose page is then to be one of the guest's.
+fn came_alone(
+    alloc: Global,
+    case: &Case<'_>,
+    read: Result<Step, TraceError>,
+) -> Result<String, AllocError> {
+    match read {
         Ok(step) => {
             if step.is_within(case.size) {
                 words_of(alloc, step.action())
@@ -80,11 +108,11 @@ fn came_alone(alloc: Global, case: &Case<'_>) -> Result<String, AllocError> {
     }
 }
 
-/// What the step does in a trace that it is added to. Of a fault the trace has no step.
+/// What the steps of a text do in a trace that they are added to. Of a fault the trace has no step.
 fn came_in_trace(alloc: Global, case: &Case<'_>) -> Result<String, AllocError> {
     let mut trace = Trace::new(alloc);
     match case.version.push(&mut trace, case.text, case.size) {
-        Ok(()) => words_at(alloc, &trace, 0),
+        Ok(()) => words(alloc, &trace),
         Err(PushError::Fault(fault)) => {
             if trace.is_empty() {
                 told_fault(alloc, fault)
@@ -105,6 +133,9 @@ pub(crate) fn outcome(alloc: Global, line: &str) -> Result<Outcome, AllocError> 
     if came.as_str() != case.wanted {
         return Ok(Outcome::Differs(came));
     }
-    let came = came_alone(alloc, &case)?;
+    let Some(read) = case.version.parse(case.text) else {
+        return Ok(Outcome::Agrees);
+    };
+    let came = came_alone(alloc, &case, read)?;
     Outcome::of(alloc, case.wanted, &came)
 }

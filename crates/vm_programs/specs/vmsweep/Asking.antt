@@ -7,7 +7,13 @@ use Rattle.vm_programs.specs.vmsweep.Lists.{Lists, lists_of}
 
 -- the same lists, as those of a sweep
 abbrev pub value_lists : Lists → ValueLists
-value_lists lists = record { frames = lists.frames; swap = lists.swap; tax = lists.tax; page_rate = lists.page_rate }
+value_lists lists = record {
+  frames = lists.frames;
+  swap = lists.swap;
+  tax = lists.tax;
+  page_rate = lists.page_rate;
+  rebalance = lists.rebalance;
+}
 
 -- the words ask for these lists
 abbrev pub AskFor : List Text → Lists → Type 0

@@ -7,7 +7,8 @@ use Rattle.vm_programs.specs.declared.vmsweep.asked.Form.TheVariants.{Drawing, G
 use Rattle.vm_words.specs.declared.command_line.ValueKind.TheVariants.{Text as AnyText}
 use Rattle.vm_words.specs.Words.{Line, asked, has_flag}
 
--- `vmsweep [--frames LIST] [--swap LIST] [--tax LIST] [--page-rate LIST] [--guests | --svg] [--progress] [--workers N]`
+-- `vmsweep [--frames LIST] [--swap LIST] [--tax LIST] [--page-rate LIST] [--rebalance LIST] [--guests | --svg] [--progress]
+-- [--workers N]`
 unfoldable pub sweep_line : Line
 sweep_line = record {
   program = codes "vmsweep";
@@ -21,6 +22,7 @@ sweep_line = record {
       ∷ record { name = codes "swap"; kind = AnyText }
       ∷ record { name = codes "tax"; kind = AnyText }
       ∷ record { name = codes "page-rate"; kind = AnyText }
+      ∷ record { name = codes "rebalance"; kind = AnyText }
       ∷ workers_rule
       ∷ [];
 }

@@ -10,7 +10,7 @@ use Rattle.vm_programs.specs.declared.vmsweep.faults.SweepFault.{SweepFault}
 use Rattle.vm_words.specs.Words.{AreTaken as AreTakenBy, has_flag}
 
 abbrev pub no_lists : Lists
-no_lists = record { frames = None; swap = None; tax = None; page_rate = None }
+no_lists = record { frames = None; swap = None; tax = None; page_rate = None; rebalance = None }
 
 -- these words behind the program's name
 abbrev pub called : List Text → List Text

@@ -8,7 +8,7 @@ use Rattle.vm_programs.specs.declared.vmsweep.asked.Asked.{Asked}
 use Rattle.vm_programs.specs.declared.vmsweep.faults.SweepFault.{SweepFault}
 use Rattle.vm_programs.specs.declared.vmsweep.faults.SweepFault.TheVariants.{BadList}
 use Rattle.vm_programs.specs.declared.vmsweep.keys.SweptKey.{SweptKey}
-use Rattle.vm_programs.specs.declared.vmsweep.keys.SweptKey.TheVariants.{Frames, Swap, Tax, PageRate}
+use Rattle.vm_programs.specs.declared.vmsweep.keys.SweptKey.TheVariants.{Frames, Swap, Tax, PageRate, Rebalance}
 use Rattle.vm_words.specs.Words.{text_of}
 
 -- the values of each key, and none of one that isn't given
@@ -17,9 +17,16 @@ pub record Lists : Type 0 where
   pub swap : Option (List ℕ)
   pub tax : Option (List ℕ)
   pub page_rate : Option (List ℕ)
+  pub rebalance : Option (List ℕ)
 
 abbrev pub lists_in : Asked → Lists
-lists_in asked = record { frames = asked.frames; swap = asked.swap; tax = asked.tax; page_rate = asked.page_rate }
+lists_in asked = record {
+  frames = asked.frames;
+  swap = asked.swap;
+  tax = asked.tax;
+  page_rate = asked.page_rate;
+  rebalance = asked.rebalance;
+}
 
 -- ---- what the words give
 
@@ -49,7 +56,8 @@ lists_of rows = do
   swap ← given Swap rows
   tax ← given Tax rows
   page_rate ← given PageRate rows
-  Ok (record { frames = frames; swap = swap; tax = tax; page_rate = page_rate })
+  rebalance ← given Rebalance rows
+  Ok (record { frames = frames; swap = swap; tax = tax; page_rate = page_rate; rebalance = rebalance })
 
 -- ---- the values of each list
 
@@ -61,6 +69,7 @@ pub record AreWithin (lists : Lists) : Type 0 where
   pub swap : IsWithinLimits Swap lists.swap
   pub tax : IsWithinLimits Tax lists.tax
   pub page_rate : IsWithinLimits PageRate lists.page_rate
+  pub rebalance : IsWithinLimits Rebalance lists.rebalance
 
 abbrev pub HasValue : Option (List ℕ) → Type 0
 HasValue list = IfSome list (λ values. 1 ≤ length values)
@@ -70,6 +79,7 @@ pub record HaveValues (lists : Lists) : Type 0 where
   pub swap : HasValue lists.swap
   pub tax : HasValue lists.tax
   pub page_rate : HasValue lists.page_rate
+  pub rebalance : HasValue lists.rebalance
 
 -- ---- combinations
 
@@ -80,7 +90,7 @@ count_of (Some values) = length values
 
 -- combinations of values of all keys but the frames: a drawing has a curve for each
 abbrev pub curves : Lists → ℕ
-curves lists = count_of lists.swap * count_of lists.tax * count_of lists.page_rate
+curves lists = count_of lists.swap * count_of lists.tax * count_of lists.page_rate * count_of lists.rebalance
 
 -- combinations of values of all keys
 abbrev pub combinations : Lists → ℕ

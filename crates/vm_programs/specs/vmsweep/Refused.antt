@@ -1,5 +1,5 @@
 -- Why words are refused that have the form of the command line.
-use Rattle.std.specs.Prelude.{◌≡◌, ◌⊎◌, ◌≤◌, ◌<◌, ℕ, List, length, Result, Ok, Err}
+use Rattle.std.specs.Prelude.{◌≡◌, ◌⊎◌, ◌≤◌, ◌<◌, ℕ, List, length, Option, None, Some, Result, Ok, Err}
 use Rattle.std.specs.List.Sorted.{IsStrictlyIncreasing}
 use Rattle.clap.specs.Words.{Row}
 use Rattle.vm_lists.specs.declared.faults.ListFaultKind.TheVariants.{Memory}
@@ -8,7 +8,7 @@ use Rattle.vm_programs.specs.vmsweep.Lists.{Lists, combinations, curves, lists_o
 use Rattle.vm_programs.specs.declared.vmsweep.asked.Form.{Form}
 use Rattle.vm_programs.specs.declared.vmsweep.asked.Form.TheVariants.{Drawing}
 use Rattle.vm_programs.specs.declared.vmsweep.faults.SweepFault.{SweepFault}
-use Rattle.vm_programs.specs.declared.vmsweep.faults.SweepFault.TheVariants.{BadList, TooMany, OneMachine, NotRising, TooManyCurves}
+use Rattle.vm_programs.specs.declared.vmsweep.faults.SweepFault.TheVariants.{BadList, TooMany, OneMachine, NotRising, TooManyCurves, TooManyOfFour}
 
 -- memory was refused
 abbrev pub IsMemory : SweepFault → Type 0
@@ -25,11 +25,21 @@ IsStatusOfFault fault status = ((status ≡ 2) × (IsMemory fault → ⊥)) ⊎ 
 
 -- ---- lists that are read
 
+-- the fault of too many curves names the rebalancing only where a list for it is given
+abbrev pub curves_fault : Option (List ℕ) → SweepFault
+curves_fault None = TooManyCurves
+curves_fault (Some values) = TooManyOfFour
+
+-- there are machines that rise, and more curves than a drawing has
+abbrev pub HasTooManyCurves : Lists → Type 0
+HasTooManyCurves lists = (2 ≤ length (machines lists)) × IsStrictlyIncreasing (machines lists) × (12 < curves lists)
+
 -- the first fault of a drawing of them
 abbrev pub IsFaultOfDrawing : Lists → SweepFault → Type 0
 IsFaultOfDrawing lists OneMachine = length (machines lists) < 2
 IsFaultOfDrawing lists NotRising = (2 ≤ length (machines lists)) × (IsStrictlyIncreasing (machines lists) → ⊥)
-IsFaultOfDrawing lists TooManyCurves = (2 ≤ length (machines lists)) × IsStrictlyIncreasing (machines lists) × (12 < curves lists)
+IsFaultOfDrawing lists TooManyCurves = HasTooManyCurves lists × (curves_fault lists.rebalance ≡ TooManyCurves)
+IsFaultOfDrawing lists TooManyOfFour = HasTooManyCurves lists × (curves_fault lists.rebalance ≡ TooManyOfFour)
 IsFaultOfDrawing lists _ = ⊥
 
 -- the first fault of them

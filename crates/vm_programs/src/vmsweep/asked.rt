@@ -39,6 +39,8 @@ pub struct Asked {
     pub tax: Option<ValueList>,
     /// The most frames that a guest gives up by paging at a boundary.
     pub page_rate: Option<ValueList>,
+    /// The most pages that a boundary moves from guest to guest.
+    pub rebalance: Option<ValueList>,
     /// What is written.
     pub form: Form,
     /// Whether to say how many runs have ended.
@@ -97,6 +99,7 @@ fn read(alloc: Global, request: &Request<'_>) -> Result<Asked, SweepFault>
         swap: given(alloc, request, SweptKey::Swap)?,
         tax: given(alloc, request, SweptKey::Tax)?,
         page_rate: given(alloc, request, SweptKey::PageRate)?,
+        rebalance: given(alloc, request, SweptKey::Rebalance)?,
         form: form_of(request),
         has_progress: request.has_flag("progress"),
         workers: workers_of(request),

@@ -1,8 +1,8 @@
 // What is refused of lists that are read.
-ghost use Rattle.std.specs.Prelude.{◌≡◌, ◌↔◌, ◌≤◌, ◌-◌, ◌^◌, IfErr, IsTrue, OnOk, min, slice_index};
+ghost use Rattle.std.specs.Prelude.{◌≡◌, ◌↔◌, ◌≤◌, ◌-◌, ◌*◌, ◌^◌, IfErr, IsTrue, OnOk, min, slice_index};
 ghost use Rattle.std.specs.List.Sorted.{IsStrictlyIncreasing};
 ghost use Rattle.vm_programs.specs.vmsweep.Lists.{combinations, count_of, curves, lists_in};
-ghost use Rattle.vm_programs.specs.vmsweep.Refused.{IsFaultOf, IsFaultOfDrawing};
+ghost use Rattle.vm_programs.specs.vmsweep.Refused.{IsFaultOf, IsFaultOfDrawing, curves_fault};
 ghost use Rattle.vm_programs.specs.vmsweep.Taken.{CanBeDrawn};
 
 use super::asked::{Asked, Form};
@@ -27,13 +27,21 @@ fn count_of(list: &Option<ValueList>) -> u64
     }
 }
 
-// Combinations of values of all keys but the frames, as far as 64 bits hold them.
-fn curves(asked: &Asked) -> u64
-    ensures { result ≡ min (curves (lists_in asked.now)) (2 ^ 64 - 1) }
+// Combinations of values of swap, tax and page rate, as far as 64 bits hold them.
+fn curves_of_three(asked: &Asked) -> u64
+    ensures { let lists = lists_in asked.now in
+        result ≡ min (count_of lists.swap * count_of lists.tax * count_of lists.page_rate) (2 ^ 64 - 1) }
 {
     count_of(&asked.swap)
         .saturating_mul(count_of(&asked.tax))
         .saturating_mul(count_of(&asked.page_rate))
+}
+
+// Combinations of values of all keys but the frames, as far as 64 bits hold them.
+fn curves(asked: &Asked) -> u64
+    ensures { result ≡ min (curves (lists_in asked.now)) (2 ^ 64 - 1) }
+{
+    curves_of_three(asked).saturating_mul(count_of(&asked.rebalance))
 }
 
 // Combinations of values of all keys, as far as 64 bits hold them.
@@ -63,7 +71,18 @@ fn is_rising(list: &ValueList) -> bool
     true
 }
 
+// The fault of too many curves, which names the rebalancing only where a list for it is given.
+fn curves_fault(list: &Option<ValueList>) -> SweepFault
+    ensures { result ≡ curves_fault list.now }
+{
+    match list {
+        Some(_) => SweepFault::TooManyOfFour,
+        None => SweepFault::TooManyCurves,
+    }
+}
+
 // Why lists can't be drawn.
+#[tactic(auto, using(crate::proofs::lemmas::vmsweep::Taken::of_curves))]
 fn check_drawing(asked: &Asked) -> Result<(), SweepFault>
     ensures drawn { OnOk result (CanBeDrawn (lists_in asked.now)) }
     ensures refused { IfErr result (IsFaultOfDrawing (lists_in asked.now)) }
@@ -78,7 +97,7 @@ fn check_drawing(asked: &Asked) -> Result<(), SweepFault>
         return Err(SweepFault::NotRising);
     }
     if curves(asked) > MOST_CURVES {
-        return Err(SweepFault::TooManyCurves);
+        return Err(curves_fault(&asked.rebalance));
     }
     Ok(())
 }

@@ -21,9 +21,12 @@ pub enum SweepFault {
     /// A drawing is asked for, and a value of `--frames` is not above the one before it.
     #[error("--svg: the values of --frames do not rise")]
     NotRising,
-    /// A drawing of more than 12 curves is asked for.
+    /// A drawing of more than 12 curves is asked for, without a list for `--rebalance`.
     #[error("--svg: more than 12 combinations of --swap, --tax and --page-rate")]
     TooManyCurves,
+    /// A drawing of more than 12 curves is asked for, with a list for `--rebalance`.
+    #[error("--svg: more than 12 combinations of --swap, --tax, --page-rate and --rebalance")]
+    TooManyOfFour,
 }
 
 impl SweepFault {

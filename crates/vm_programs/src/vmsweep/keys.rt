@@ -33,6 +33,13 @@ pub const PAGE_RATE_LIMITS: Limits = Limits {
     greatest: 256,
 };
 
+/// The values of `--rebalance`, in pages.
+pub const REBALANCE_LIMITS: Limits = Limits {
+    unit: Unit::Whole,
+    least: 0,
+    greatest: 262144,
+};
+
 /// A key whose values a sweep goes over.
 #[derive(Clone, Copy, Debug, PartialEq, Eq)]
 pub enum SweptKey {
@@ -44,6 +51,8 @@ pub enum SweptKey {
     Tax,
     /// The most frames that a guest gives up by paging at a boundary.
     PageRate,
+    /// The most pages that a boundary moves from idle guests to those who would pay more for them.
+    Rebalance,
 }
 
 impl SweptKey {
@@ -57,6 +66,7 @@ impl SweptKey {
             SweptKey::Swap => "swap",
             SweptKey::Tax => "tax",
             SweptKey::PageRate => "page-rate",
+            SweptKey::Rebalance => "rebalance",
         }
     }
 
@@ -70,6 +80,7 @@ impl SweptKey {
             SweptKey::Swap => SWAP_LIMITS,
             SweptKey::Tax => TAX_LIMITS,
             SweptKey::PageRate => PAGE_RATE_LIMITS,
+            SweptKey::Rebalance => REBALANCE_LIMITS,
         }
     }
 }

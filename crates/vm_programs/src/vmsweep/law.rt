@@ -2,12 +2,12 @@
 ghost use Rattle.std.specs.Prelude.{◌∷◌, [], None, Some, codes, false, true};
 ghost use Rattle.vm_lists.specs.declared.faults.ListFaultKind.TheVariants.{EndsBelow, NoItem, NoStep, OutsideRange};
 ghost use Rattle.vm_programs.specs.declared.vmsweep.asked.Form.TheVariants.{Drawing, Guests, Table};
-ghost use Rattle.vm_programs.specs.declared.vmsweep.faults.SweepFault.TheVariants.{BadList, NotRising, OneMachine, TooMany, TooManyCurves};
-ghost use Rattle.vm_programs.specs.declared.vmsweep.keys.SweptKey.TheVariants.{Frames, PageRate, Swap, Tax};
+ghost use Rattle.vm_programs.specs.declared.vmsweep.faults.SweepFault.TheVariants.{BadList, NotRising, OneMachine, TooMany, TooManyCurves, TooManyOfFour};
+ghost use Rattle.vm_programs.specs.declared.vmsweep.keys.SweptKey.TheVariants.{Frames, PageRate, Rebalance, Swap, Tax};
 ghost use Rattle.vm_programs.specs.vmsweep.Examples.{AreRefused, AreRefusedFor, AskFor, no_lists};
 ghost use Rattle.vm_programs.specs.vmsweep.Keys.{limits_of};
 
-/// Worked examples of words that are taken, with what they ask for: the values of the four lists, what is written, whether
+/// Worked examples of words that are taken, with what they ask for: the values of the five lists, what is written, whether
 /// `--progress` is given, and the number of threads. And of words that are refused, with their first fault.
 pub fn law_words()
     ensures none { AskFor [] no_lists Table false 1 }
@@ -15,6 +15,8 @@ pub fn law_words()
         (record no_lists { frames = Some (192 ∷ 224 ∷ 240 ∷ 256 ∷ []); tax = Some (0 ∷ 7500 ∷ []) }) Table false 4 }
     ensures guests { AskFor (codes "--progress" ∷ codes "--page-rate=256" ∷ codes "--guests" ∷ codes "--swap=0" ∷ [])
         (record no_lists { swap = Some (0 ∷ []); page_rate = Some (256 ∷ []) }) Guests true 1 }
+    ensures rebalance { AskFor (codes "--rebalance" ∷ codes "0..64/32,262144" ∷ [])
+        (record no_lists { rebalance = Some (0 ∷ 32 ∷ 64 ∷ 262144 ∷ []) }) Table false 1 }
     ensures drawing { AskFor (codes "--svg" ∷ codes "--frames=8,16" ∷ codes "--tax" ∷ codes "0.25,99.99" ∷ [])
         (record no_lists { frames = Some (8 ∷ 16 ∷ []); tax = Some (25 ∷ 9999 ∷ []) }) Drawing false 1 }
 
@@ -26,6 +28,9 @@ pub fn law_words()
     ensures no_step { AreRefusedFor (codes "--swap=1..2/0" ∷ []) (BadList Swap (record { at = 5; kind = NoStep })) }
     ensures in_order { AreRefusedFor (codes "--page-rate=257" ∷ codes "--tax=" ∷ []) (BadList Tax (record { at = 0; kind = NoItem })) }
 
+    ensures too_far { AreRefusedFor (codes "--rebalance=0,262145" ∷ [])
+        (BadList Rebalance (record { at = 2; kind = OutsideRange (limits_of Rebalance) })) }
+
     // Of the lists together.
     ensures too_many { AreRefusedFor (codes "--frames=1..10" ∷ codes "--swap=1..10" ∷ codes "--tax=1..10" ∷ codes "--page-rate=1..11" ∷ [])
         TooMany }
@@ -33,6 +38,7 @@ pub fn law_words()
     ensures one_machine { AreRefusedFor (codes "--svg" ∷ codes "--frames=8" ∷ []) OneMachine }
     ensures same_machine { AreRefusedFor (codes "--svg" ∷ codes "--frames=8,8" ∷ []) NotRising }
     ensures too_many_curves { AreRefusedFor (codes "--svg" ∷ codes "--frames=8,9" ∷ codes "--swap=1..13" ∷ []) TooManyCurves }
+    ensures too_many_of_four { AreRefusedFor (codes "--svg" ∷ codes "--frames=8,9" ∷ codes "--rebalance=0..12" ∷ []) TooManyOfFour }
 
     // Of the command line.
     ensures beside { AreRefused (codes "--svg" ∷ codes "--guests" ∷ []) }

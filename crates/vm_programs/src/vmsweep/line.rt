@@ -2,8 +2,8 @@
 use crate::runs::WORKERS;
 use vm_words::{CommandLine, Flag, ValueKind, ValueWord};
 
-/// `vmsweep [--frames LIST] [--swap LIST] [--tax LIST] [--page-rate LIST] [--guests | --svg] [--progress] [--workers N]
-/// < CONFIGURATION > SWEEP`
+/// `vmsweep [--frames LIST] [--swap LIST] [--tax LIST] [--page-rate LIST] [--rebalance LIST] [--guests | --svg] [--progress]
+/// [--workers N] < CONFIGURATION > SWEEP`
 pub const LINE: CommandLine = CommandLine {
     program: "vmsweep",
     takes: "CONFIGURATION",
@@ -48,6 +48,12 @@ pub const LINE: CommandLine = CommandLine {
             name: "page-rate",
             value_name: "LIST",
             help: "The most frames that a guest gives up by paging at a boundary, 1 to 256",
+            kind: ValueKind::Text,
+        },
+        ValueWord {
+            name: "rebalance",
+            value_name: "LIST",
+            help: "The most pages that a boundary moves from idle guests to others, 0 to 262144",
             kind: ValueKind::Text,
         },
         ValueWord {

@@ -121,8 +121,8 @@ pub fn status<RT: Threads + Sync, R: Source, W: Sink>(
 /// Runs the configuration on standard input once for each combination of the values that the words list, and writes a table (RFC
 /// 4180) with a record for each run, or for each run and guest, or a drawing (SVG) to standard output.
 ///
-/// The words are those of `vmsweep [--frames LIST] [--swap LIST] [--tax LIST] [--page-rate LIST] [--guests | --svg] [--progress]
-/// [--workers N]`: a setting that isn't listed keeps the configuration's own value, whole runs go on at most N threads, 1 to 64, and 1
+/// The words are those of `vmsweep [--frames LIST] [--swap LIST] [--tax LIST] [--page-rate LIST] [--rebalance LIST]
+/// [--guests | --svg] [--progress] [--workers N]`: a setting that isn't listed keeps the configuration's own value, whole runs go on at most N threads, 1 to 64, and 1
 /// where that isn't said. They are read before the input. The exit code is that of [`status`].
 pub fn vmsweep(rt: &(impl Env + Input + Print + Eprint + AllocGlobal + Threads + Sync)) -> ExitCode
     ensures known { exit_status result ≤ 3 }

@@ -35,11 +35,12 @@ pub(crate) fn write_sweep<RT: Threads + Sync, W: Sink>(
         swap,
         tax,
         page_rate,
+        rebalance,
         form,
         has_progress,
         workers,
     } = asked;
-    let lists = Lists::new(frames, swap, tax, page_rate);
+    let lists = Lists::new(frames, swap, tax, page_rate, rebalance);
     let telling = Telling {
         system,
         is_wanted: has_progress,

@@ -25,7 +25,7 @@ fn complain(system: &impl Eprint, fault: SweepFault) -> u8
 /// of the list where it is wrong, from 0, and how, as in `vmsweep: --frames: at byte 4: the range ends below its beginning`.
 ///
 /// Words are refused first for what they are one by one, then list by list for the first fault, in the order `--frames`, `--swap`,
-/// `--tax`, `--page-rate`, then for more than 10000 combinations, and last for a drawing that can't be made.
+/// `--tax`, `--page-rate`, `--rebalance`, then for more than 10000 combinations, and last for a drawing that can't be made.
 pub fn read_words(system: &(impl Eprint + AllocGlobal), words: &[String]) -> Result<Asked, u8>
     // It is what the words say.
     ensures lists { IfOk result (λ asked. lists_of (rows_of (map string_bytes words.now)) ≡ Ok (lists_in asked)) }

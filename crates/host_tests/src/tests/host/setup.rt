@@ -24,6 +24,8 @@ pub(super) fn machine(frames: u32, swap: u32) -> MachineSpec
             low: 100,
         },
         page_rate: 16,
+        rebalance: 0,
+        page: 4,
     }
 }
 
@@ -95,6 +97,8 @@ pub(super) fn add_guest(
         seed: 0,
         stream: 0,
         tell: true,
+        own_driver: true,
+        page: 4,
         trace: trace_of(rt, shape.size, steps),
     };
     match domains.push(name, spec) {

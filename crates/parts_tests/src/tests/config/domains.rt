@@ -24,6 +24,8 @@ fn guest_of(alloc: Global, min: u32) -> GuestSpec
         seed: 0,
         stream: 0,
         tell: true,
+        own_driver: true,
+        page: 4,
         trace: Trace::new(alloc),
     }
 }
@@ -95,6 +97,8 @@ fn a_machine_may_be_the_greatest(rt: HostRuntime) {
             low: 0,
         },
         page_rate: 256,
+        rebalance: 262_144,
+        page: 1_048_576,
     };
     check_eq(&rt, machine.percent.soft, 10_000);
 }

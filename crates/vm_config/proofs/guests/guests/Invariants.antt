@@ -8,8 +8,8 @@ use Rattle.vm_config.proofs.guests.guests.Given as goal
 -- the objects that are left go on from the guests so far to the same answer
 abbrev pub invariant-loop-object : goal.invariant-loop-object
 invariant-loop-object l = record {
-  completes : guests_at l.limits l.quantum (map view l.object-iterator.rest.items) l.guests
-      ≡ guests_at l.limits l.quantum (map view l.fn.objects.items) no_guests;
+  completes : guests_at l.limits l.quantum l.page (map view l.object-iterator.rest.items) l.guests
+      ≡ guests_at l.limits l.quantum l.page (map view l.fn.objects.items) no_guests;
   count : length l.guests.domains + length l.object-iterator.rest.items ≤ 256;
   within : AreWithinLimits l.guests.domains;
   autostart : length l.guests.autostart ≡ length l.guests.domains;

@@ -4,10 +4,11 @@ use Rattle.vm_domains.specs.Machine.{MachineConfig}
 use Rattle.vm_json.specs.View.{view}
 use Rattle.vm_plan.specs.declared.thresholds.Percents.{Percents}
 use Rattle.vm_config.specs.declared.fault.Fault.{Fault}
+use Rattle.vm_config.specs.declared.machine.Additions.{Additions}
 use Rattle.vm_config.specs.declared.place.Key.TheVariants.{Frames, Swap, Overhead, Tax, Percent, PageRate}
 use Rattle.vm_config.specs.declared.place.Part.TheVariants.{Root}
 use Rattle.vm_config.specs.declared.version.Limits.{Limits}
-use Rattle.vm_config.specs.Located.{machine_at}
+use Rattle.vm_config.specs.Located.{additions_at, machine_at}
 use Rattle.vm_config.specs.Places.{number_at, number_or_at, percents_or_at}
 use Rattle.vm_config.proofs.StepLemmas.{fails, no_value}
 use Rattle.vm_config.proofs.machine.machine.Goals as goal
@@ -58,10 +59,15 @@ page_rate_fails : (limits : Limits) (d : Data) (frames : ℕ) (swap : ℕ) (over
 unfolding machine_at
 page_rate_fails limits d frames swap overhead tax percent f read_frames read_swap read_overhead read_tax read_percent is = rw (read_frames, read_swap, read_overhead, read_tax, read_percent, is) refl
 
-machine_is : (limits : Limits) (d : Data) (frames : ℕ) (swap : ℕ) (overhead : ℕ) (tax : ℕ) (percent : Percents) (page_rate : ℕ)
-    → number_at d Root Frames 1 limits.frames ≡ Ok frames → number_or_at d Root Swap 0 limits.swap 0 ≡ Ok swap → number_or_at d Root Overhead 0 1024 0 ≡ Ok overhead → number_or_at d Root Tax 0 limits.tax limits.default_tax ≡ Ok tax → percents_or_at d Root Percent limits.percent limits.default_percent ≡ Ok percent → number_or_at d Root PageRate 1 256 16 ≡ Ok page_rate → machine_at limits d ≡ Ok (record { frames = frames; swap = swap; overhead = overhead; tax = tax; percent = percent; page_rate = page_rate })
+additions_fail : (limits : Limits) (d : Data) (frames : ℕ) (swap : ℕ) (overhead : ℕ) (tax : ℕ) (percent : Percents) (page_rate : ℕ) (f : Fault)
+    → number_at d Root Frames 1 limits.frames ≡ Ok frames → number_or_at d Root Swap 0 limits.swap 0 ≡ Ok swap → number_or_at d Root Overhead 0 1024 0 ≡ Ok overhead → number_or_at d Root Tax 0 limits.tax limits.default_tax ≡ Ok tax → percents_or_at d Root Percent limits.percent limits.default_percent ≡ Ok percent → number_or_at d Root PageRate 1 256 16 ≡ Ok page_rate → additions_at limits d ≡ Err f → machine_at limits d ≡ Err f
 unfolding machine_at
-machine_is limits d frames swap overhead tax percent page_rate read_frames read_swap read_overhead read_tax read_percent read_page_rate = rw (read_frames, read_swap, read_overhead, read_tax, read_percent, read_page_rate) refl
+additions_fail limits d frames swap overhead tax percent page_rate f read_frames read_swap read_overhead read_tax read_percent read_page_rate is = rw (read_frames, read_swap, read_overhead, read_tax, read_percent, read_page_rate, is) refl
+
+machine_is : (limits : Limits) (d : Data) (frames : ℕ) (swap : ℕ) (overhead : ℕ) (tax : ℕ) (percent : Percents) (page_rate : ℕ) (additions : Additions)
+    → number_at d Root Frames 1 limits.frames ≡ Ok frames → number_or_at d Root Swap 0 limits.swap 0 ≡ Ok swap → number_or_at d Root Overhead 0 1024 0 ≡ Ok overhead → number_or_at d Root Tax 0 limits.tax limits.default_tax ≡ Ok tax → percents_or_at d Root Percent limits.percent limits.default_percent ≡ Ok percent → number_or_at d Root PageRate 1 256 16 ≡ Ok page_rate → additions_at limits d ≡ Ok additions → machine_at limits d ≡ Ok (record { frames = frames; swap = swap; overhead = overhead; tax = tax; percent = percent; page_rate = page_rate; rebalance = additions.rebalance; page = additions.page })
+unfolding machine_at
+machine_is limits d frames swap overhead tax percent page_rate additions read_frames read_swap read_overhead read_tax read_percent read_page_rate read_additions = rw (read_frames, read_swap, read_overhead, read_tax, read_percent, read_page_rate, read_additions) refl
 
 pub returns-in_err-frames : goal.returns-in_err-frames
 returns-in_err-frames c =
@@ -126,15 +132,30 @@ returns-in_err-page_rate c =
     (sym c.percents_or_default.ensures.percents ∙ c.in_ok-percent.was)
     (sym c.number_or_default-4.ensures.value ∙ c.in_err-page_rate.was))
 
-pub returns-clause-machine : goal.returns-clause-machine
-returns-clause-machine c =
-    sym (machine_is c.args.limits.now (view c.args.object.now) c.in_ok-frames.frames c.in_ok-swap.swap c.in_ok-overhead.overhead c.in_ok-tax.tax c.in_ok-percent.percent c.in_ok-page_rate.page_rate
+pub returns-in_err-additions : goal.returns-in_err-additions
+returns-in_err-additions c =
+    let f = c.in_err-additions.field-0.0 in
+    let is = fails c.from_residual-in_err-additions.result f c.from_residual-in_err-additions.ensures.1 in
+    failed c.args.limits.now (view c.args.object.now) c.from_residual-in_err-additions.result f is
+    (additions_fail c.args.limits.now (view c.args.object.now) c.in_ok-frames.frames c.in_ok-swap.swap c.in_ok-overhead.overhead c.in_ok-tax.tax c.in_ok-percent.percent c.in_ok-page_rate.page_rate f
     (sym c.number.ensures.value ∙ c.in_ok-frames.was)
     (sym c.number_or_default.ensures.value ∙ c.in_ok-swap.was)
     (sym c.number_or_default-2.ensures.value ∙ c.in_ok-overhead.was)
     (sym c.number_or_default-3.ensures.value ∙ c.in_ok-tax.was)
     (sym c.percents_or_default.ensures.percents ∙ c.in_ok-percent.was)
-    (sym c.number_or_default-4.ensures.value ∙ c.in_ok-page_rate.was))
+    (sym c.number_or_default-4.ensures.value ∙ c.in_ok-page_rate.was)
+    (sym c.additions_of.ensures.additions ∙ c.in_err-additions.was))
+
+pub returns-clause-machine : goal.returns-clause-machine
+returns-clause-machine c =
+    sym (machine_is c.args.limits.now (view c.args.object.now) c.in_ok-frames.frames c.in_ok-swap.swap c.in_ok-overhead.overhead c.in_ok-tax.tax c.in_ok-percent.percent c.in_ok-page_rate.page_rate c.in_ok-additions.additions
+    (sym c.number.ensures.value ∙ c.in_ok-frames.was)
+    (sym c.number_or_default.ensures.value ∙ c.in_ok-swap.was)
+    (sym c.number_or_default-2.ensures.value ∙ c.in_ok-overhead.was)
+    (sym c.number_or_default-3.ensures.value ∙ c.in_ok-tax.was)
+    (sym c.percents_or_default.ensures.percents ∙ c.in_ok-percent.was)
+    (sym c.number_or_default-4.ensures.value ∙ c.in_ok-page_rate.was)
+    (sym c.additions_of.ensures.additions ∙ c.in_ok-additions.was))
 
 pub returns-clause-tax : goal.returns-clause-tax
 returns-clause-tax c = c.in_ok-tax.ensures.within.1

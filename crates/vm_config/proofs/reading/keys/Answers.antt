@@ -77,6 +77,8 @@ guests-requires c =
       few = le_trans few c.requires.guests;
       some_quantum = c.in_ok-numbers.ensures.quantum.0;
       short_quantum = c.in_ok-numbers.ensures.quantum.1;
+      some_kib = c.in_ok-numbers.ensures.page.0;
+      few_kib = c.in_ok-numbers.ensures.page.1;
     }
 
 pub returns-clause-limits : goal.returns-clause-limits

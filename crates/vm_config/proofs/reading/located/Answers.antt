@@ -8,7 +8,7 @@ use Rattle.vm_config.specs.Places.{IsOrLacksMemory}
 use Rattle.vm_config.specs.Seen.{root_seen}
 use Rattle.vm_config.specs.Versions.{version_1}
 use Rattle.vm_config.proofs.StepLemmas.{failure, failure_of, fails, no_fault, no_value, step_fails, value_wanted}
-use Rattle.vm_config.proofs.VersionLemmas.{config_is_v1, config_is_v2, read_v1, root_fails, root_fails_v1, version_fails}
+use Rattle.vm_config.proofs.VersionLemmas.{config_is_v1, config_is_newer, read_v1, root_fails, root_fails_v1, version_fails}
 use Rattle.vm_config.proofs.reading.located.Goals as goal
 
 pub returns-in_err-root : goal.returns-in_err-root
@@ -46,7 +46,7 @@ returns-in_err-config c =
     let is = fails answer f c.from_residual-in_err-config.ensures.1 in
     let d = view c.in_ok-root.root in
     let root = value_wanted (root_seen c.root.result) _ d c.root.ensures (ap root_seen c.in_ok-root.was) in
-    let whole = config_is_v1 c.args.bytes.now d _ root (sym c.version.ensures ∙ c.in_ok-version.was) c.if-branch-eq1.true in
+    let whole = config_is_v1 c.args.bytes.now d _ root (sym c.version.ensures ∙ c.in_ok-version.was) c.if-version-eq1.true in
     record {
       config = failure_of answer _ c.keys_v1.result _ f is c.keys_v1.ensures.config c.in_err-config.was
           (λ keys. whole ∙ step_fails (keys_at version_1 d) (λ config. Ok (migrated config)) f keys);
@@ -55,16 +55,16 @@ returns-in_err-config c =
           (λ keys. no_fault _ _ config f (read_v1 c.args.bytes.now d config root v1).1 keys);
     }
 
-pub returns-then-branch-eq1-clause-config : goal.returns-then-branch-eq1-clause-config
-returns-then-branch-eq1-clause-config c =
+pub returns-then-version-eq1-clause-config : goal.returns-then-version-eq1-clause-config
+returns-then-version-eq1-clause-config c =
     let d = view c.in_ok-root.root in
     let root = value_wanted (root_seen c.root.result) _ d c.root.ensures (ap root_seen c.in_ok-root.was) in
-    let whole = config_is_v1 c.args.bytes.now d _ root (sym c.version.ensures ∙ c.in_ok-version.was) c.if-branch-eq1.true in
+    let whole = config_is_v1 c.args.bytes.now d _ root (sym c.version.ensures ∙ c.in_ok-version.was) c.if-version-eq1.true in
     let keys = value_wanted c.keys_v1.result _ c.in_ok-config.config c.keys_v1.ensures.config c.in_ok-config.was in
     inl (ap Ok c.migrate.ensures ∙ sym (whole ∙ ap (λ read. read >>= (λ config. Ok (migrated config))) keys))
 
-pub returns-then-branch-eq1-clause-migrates : goal.returns-then-branch-eq1-clause-migrates
-returns-then-branch-eq1-clause-migrates c = λ config v1.
+pub returns-then-version-eq1-clause-migrates : goal.returns-then-version-eq1-clause-migrates
+returns-then-version-eq1-clause-migrates c = λ config v1.
     let d = view c.in_ok-root.root in
     let root = value_wanted (root_seen c.root.result) _ d c.root.ensures (ap root_seen c.in_ok-root.was) in
     let keys = value_wanted c.keys_v1.result _ c.in_ok-config.config c.keys_v1.ensures.config c.in_ok-config.was in
@@ -76,9 +76,9 @@ returns c =
     let d = view c.in_ok-root.root in
     let root = value_wanted (root_seen c.root.result) _ d c.root.ensures (ap root_seen c.in_ok-root.was) in
     let version = sym c.version.ensures ∙ c.in_ok-version.was in
-    let whole = config_is_v2 c.args.bytes.now d _ root version c.if-branch-eq1.false in
+    let whole = config_is_newer c.args.bytes.now d _ root version c.if-version-eq1.false in
     record {
-      config = subst (λ wanted. IsOrLacksMemory c.keys_v2.result wanted) (sym whole) c.keys_v2.ensures.config;
-      limits = c.keys_v2.ensures.limits;
-      migrates = λ config v1. let one = (read_v1 c.args.bytes.now d config root v1).0 in absurd (c.if-branch-eq1.false (cc (one, version)));
+      config = subst (λ wanted. IsOrLacksMemory c.keys_newer.result wanted) (sym whole) c.keys_newer.ensures.config;
+      limits = c.keys_newer.ensures.limits;
+      migrates = λ config v1. let one = (read_v1 c.args.bytes.now d config root v1).0 in absurd (c.if-version-eq1.false (cc (one, version)));
     }

@@ -28,5 +28,24 @@ returns-in-Idle c = record {
   hold = record { frames = refl; room = record { capacity = refl; reads = refl } };
 }
 
+pub returns-in-Touch : goal.returns-in-Touch
+returns-in-Touch c = record { «record» = rw c.in-Touch.is c.touch-in-Touch.ensures.«record»; tied = c.touch-in-Touch.ensures.tied; hold = c.touch-in-Touch.ensures.hold }
+
+pub returns-in-Yield : goal.returns-in-Yield
+returns-in-Yield c = record {
+  «record» = rw c.in-Yield.is refl;
+  tied = c.requires.fit.tied;
+  hold = record { frames = refl; room = record { capacity = refl; reads = refl } };
+}
+
 pub returns-in-Post : goal.returns-in-Post
 returns-in-Post c = record { «record» = rw c.in-Post.is c.post_raw.ensures.«record»; tied = c.post_raw.ensures.tied; hold = c.post_raw.ensures.hold }
+
+pub returns-in-Actual : goal.returns-in-Actual
+returns-in-Actual c =
+    let tied = c.requires.fit.tied in
+    record {
+      «record» = rw (c.in-Actual.is, c.set_actual.ensures) refl;
+      tied = record { swap = tied.swap; free = rw c.set_actual.ensures tied.free; early_room = tied.early_room; pages_room = tied.pages_room; bytes_room = tied.bytes_room };
+      hold = record { frames = refl; room = record { capacity = refl; reads = refl } };
+    }

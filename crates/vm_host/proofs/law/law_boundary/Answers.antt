@@ -1,5 +1,5 @@
 use Rattle.vm_reclaim.specs.Policy.{policy_of}
-use Rattle.vm_host.proofs.FairnessLemmas.{fair-bounded}
+use Rattle.vm_host.proofs.FairnessLemmas.{fair-bounded, fair-rebalanced}
 use Rattle.vm_host.proofs.LineLemmas.{bounded-sound}
 use Rattle.vm_host.proofs.law.law_boundary.Goals as goal
 
@@ -8,3 +8,6 @@ returns-clause-sound c = λ w lines sound. bounded-sound (policy_of w.machine) w
 
 pub returns-clause-fair : goal.returns-clause-fair
 returns-clause-fair c = λ w lines sound. fair-bounded (policy_of w.machine) w lines sound
+
+pub returns-clause-rebalanced : goal.returns-clause-rebalanced
+returns-clause-rebalanced c = λ w lines sound. fair-rebalanced (policy_of w.machine) w lines sound

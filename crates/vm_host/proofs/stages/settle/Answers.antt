@@ -7,7 +7,7 @@ use Rattle.vm_pool.specs.Changes.{with_orders}
 use Rattle.vm_pool.specs.Pool.{PoolView}
 use Rattle.vm_sound.specs.Sound.{HasSameSetup}
 use Rattle.vm_reclaim.specs.declared.lists.BoundaryPlan.{BoundaryPlan}
-use Rattle.vm_reclaim.specs.Boundary.{plan_of, pool_settled}
+use Rattle.vm_reclaim.specs.Boundary.{plan_of, pool_balanced}
 use Rattle.vm_reclaim.specs.Numbers.{policy_in}
 use Rattle.vm_reclaim.specs.Policy.{Policy}
 use Rattle.vm_reclaim.specs.Reclaim.{blocks_in}
@@ -17,7 +17,7 @@ use Rattle.vm_host.specs.Boundary.{done_after_lines, finished}
 use Rattle.vm_host.specs.Parts.{world_of}
 use Rattle.vm_host.specs.World.{World}
 use Rattle.vm_host.proofs.RefusedLemmas.{refused}
-use Rattle.vm_host.proofs.SetupLemmas.{setup-none, setup-settled}
+use Rattle.vm_host.proofs.SetupLemmas.{setup-balanced, setup-none}
 use Rattle.vm_host.proofs.stages.settle.Goals as goal
 
 pub plan_boundary-requires : goal.plan_boundary-requires
@@ -31,14 +31,14 @@ carry_out-requires c = c.in_ok-plan.ensures.can
 
 -- the state is that found, and the pool is moved by the plan for it
 settled-as : (w : World) (policy : Policy) (state : State) (blocks : Bool) (pool : PoolView) → state ≡ next_state_of w.state w.pool.free policy.thresholds → blocks ≡ blocks_in state
-    → pool ≡ with_orders blocks (pool_settled policy state w.pool) → record w { pool = pool; state = state } ≡ finished policy w
+    → pool ≡ with_orders blocks (pool_balanced policy state w.pool) → record w { pool = pool; state = state } ≡ finished policy w
 settled-as w policy state blocks pool found blocked moved =
-    (λ i. record w { pool = (moved ∙ ap (λ (b : Bool). with_orders b (pool_settled policy state w.pool)) blocked) i; state = state })
-    ∙ ap (λ (s : State). record w { pool = with_orders (blocks_in s) (pool_settled policy s w.pool); state = s }) found
+    (λ i. record w { pool = (moved ∙ ap (λ (b : Bool). with_orders b (pool_balanced policy state w.pool)) blocked) i; state = state })
+    ∙ ap (λ (s : State). record w { pool = with_orders (blocks_in s) (pool_balanced policy s w.pool); state = s }) found
 
 -- what was done by a plan
 abbrev as-told : List AnswerValue → State → ℕ → BoundaryPlan → Boundary
-as-told answers state free plan = record { answers = answers; state = state; free = free; revoked = plan.revoked; paged = plan.paged; granted = plan.granted; blocked = plan.blocked }
+as-told answers state free plan = record { answers = answers; state = state; free = free; revoked = plan.revoked; paged = plan.paged; granted = plan.granted; rebalanced = plan.rebalanced; blocked = plan.blocked }
 
 told-as : (w : World) (policy : Policy) (state : State) (free : ℕ) (plan : BoundaryPlan) (answers told : List AnswerValue) → told ≡ answers → free ≡ w.pool.free
     → state ≡ next_state_of w.state w.pool.free policy.thresholds → plan ≡ plan_of policy state w.pool
@@ -73,7 +73,7 @@ returns-clause-kept c =
     record {
       machine = refl;
       names = refl;
-      setup = subst (HasSameSetup first) (sym moved) (setup-settled (policy_in c.numbers_of-numbers.result) c.next_state-state.result blocks first);
+      setup = subst (HasSameSetup first) (sym moved) (setup-balanced (policy_in c.numbers_of-numbers.result) c.next_state-state.result blocks first);
     }
 
 -- ---- memory was refused

@@ -1,4 +1,4 @@
-use Rattle.vm_laws.proofs.LawLemmas.{steps-read, text-imported, text-read}
+use Rattle.vm_laws.proofs.LawLemmas.{text-imported, text-read, trace-means}
 use Rattle.vm_laws.proofs.imported.law_imported.Goals as goal
 
 pub returns-clause-written : goal.returns-clause-written
@@ -8,4 +8,4 @@ pub returns-clause-read : goal.returns-clause-read
 returns-clause-read c = text-read
 
 pub returns-clause-steps : goal.returns-clause-steps
-returns-clause-steps c = steps-read
+returns-clause-steps c = trace-means

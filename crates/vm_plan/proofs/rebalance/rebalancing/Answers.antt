@@ -1,20 +1,21 @@
-use Rattle.std.proofs.Common.{◌≡◌, ◌++◌, ◌+◌, ◌-◌, ◌^◌, ◌<◌, ℕ, zero, suc, [], ◌∷◌, List, length, Result, Ok, Err, IfErr, inl, sym, refl, ap, ◌∙◌, subst, arith}
+use Rattle.std.proofs.Common.{◌≡◌, ◌++◌, ◌+◌, ◌-◌, ◌^◌, ◌<◌, ◌≤◌, ℕ, [], List, length, replicate, Result, Ok, Err, IfErr, inl, sym, refl, ap, ◌∙◌, subst, arith}
 use Rattle.std.proofs.lemmas.Grind.{fold-append}
-use Rattle.std.proofs.lemmas.List.{length-map, length_push, with_items_is}
+use Rattle.std.proofs.lemmas.List.{length-append, length-map, length-replicate, with_items_is}
 use Rattle.std.proofs.lemmas.Result.{IfOk-from_err}
 use Rattle.vm_tax.specs.Ratio.{Tax, hundredths}
 use Rattle.vm_plan.specs.declared.row.PlanRow.{PlanRow}
 use Rattle.vm_plan.specs.Moves.{EachMove}
 use Rattle.vm_plan.specs.Row.{Row, revocable_ratio}
 use Rattle.vm_plan.specs.PlanRow.{row_of, rows_of}
-use Rattle.vm_plan.specs.Rebalancing.{IsTransfer, IsNextGiver, IsRebalancingList, given_by, rows_given, transferred}
+use Rattle.vm_plan.specs.Rebalancing.{IsTransfer, IsNextGiver, IsRebalancingList, given_by, rows_given}
+use Rattle.vm_plan.specs.Runs.{rows_moved, IsFlow}
 use Rattle.vm_plan.specs.Sides.{AreSides}
+use Rattle.vm_plan.proofs.FlowLemmas.{each_flow, given_flows}
 use Rattle.vm_plan.proofs.KeepLemmas.{rebalancing_applies}
-use Rattle.vm_plan.proofs.MoveLemmas.{each-append, empty-length, none_in}
+use Rattle.vm_plan.proofs.MoveLemmas.{empty-length, none_in}
 use Rattle.vm_plan.proofs.Places.{within}
 use Rattle.vm_plan.proofs.RebalanceLemmas.{length-rows_given, rebalancing_list-only, rebalancing_within}
 use Rattle.vm_plan.proofs.RowLemmas.{plan_rows-have_shares}
-use Rattle.vm_plan.proofs.TransferLemmas.{given_is}
 use Rattle.vm_plan.proofs.rebalance.rebalancing.Goals as goal
 use Rattle.vm_plan.proofs.rebalance.rebalancing.Goals.{else-loop-left-test, then-loop-left-test+in_default}
 
@@ -27,11 +28,14 @@ any_err (Err e) P h = h
 none_yet : (moves : List ℕ) (n : ℕ) → moves ≡ [] → length moves + n ≡ n
 none_yet moves n e = let empty = empty-length moves e in omega (arith, empty)
 
-one_more : (moves : List ℕ) (giver left limit : ℕ) → 0 < left → length moves + left ≡ limit → length (moves ++ giver ∷ []) + (left - 1) ≡ limit
-one_more moves giver left limit some turns = omega (arith, length_push moves giver)
+more_moves : (moves : List ℕ) (giver count left limit : ℕ) → count ≤ left → length moves + left ≡ limit → length (moves ++ replicate count giver) + (left - count) ≡ limit
+more_moves moves giver count left limit some turns =
+    let long = length-append moves (replicate count giver) in
+    let wide = length-replicate count giver in
+    omega (arith, long, wide, some, turns)
 
-few_moves : (moves left limit : ℕ) → 0 < left → moves + left ≡ limit → limit < 2 ^ 32 → moves + 1 < 2 ^ 32
-few_moves moves left limit some turns few = omega arith
+few_moves : (moves count left limit : ℕ) → count ≤ left → moves + left ≡ limit → limit < 2 ^ 32 → moves + count < 2 ^ 32
+few_moves moves count left limit some turns few = omega arith
 
 -- who gives a page is among the rows at the start
 some_rows : (tax : Tax) (rows after : List PlanRow) (moves : List ℕ) (giver taker : ℕ) → rows_of after ≡ rows_given tax (rows_of rows) moves → IsTransfer tax (rows_of after) giver taker → 0 < length rows
@@ -39,18 +43,6 @@ some_rows tax rows after moves giver taker e t =
     let there = within (revocable_ratio tax) (rows_of after) giver t.least.ratio t.least.here in
     let long = ap length e ∙ length-rows_given tax (rows_of rows) moves ∙ length-map rows row_of in
     omega (arith, there, long)
-
--- one more giver behind some
-each_push : (tax : Tax) (start now : List Row) (moves : List ℕ) (giver taker : ℕ) → now ≡ rows_given tax start moves → IsTransfer tax now giver taker
-    → EachMove (λ before move. IsNextGiver tax (rows_given tax start before) move) moves → EachMove (λ before move. IsNextGiver tax (rows_given tax start before) move) (moves ++ giver ∷ [])
-each_push tax start now moves giver taker is t each =
-    each-append (λ before move. IsNextGiver tax (rows_given tax start before) move) moves (giver ∷ []) each (λ i l. last i l)
-  where
-    last : EachMove (λ before move. IsNextGiver tax (rows_given tax start (moves ++ before)) move) (giver ∷ [])
-    last zero l =
-        let there = fold-append (given_by tax) start moves [] in
-        subst (λ (xs : List Row). IsNextGiver tax xs giver) (is ∙ sym there) (taker, t)
-    last (suc i) l = absurd (omega arith)
 
 -- ---- before the loop
 
@@ -121,15 +113,26 @@ next_transfer-requires-clause-few c =
 pub next_transfer-requires-clause-sides : goal.next_transfer-requires-clause-sides
 next_transfer-requires-clause-sides c = subst (λ (xs : List PlanRow). AreSides c.args.tax (rows_of xs) c.loop-left.givers c.loop-left.takers) (sym c.deref.ensures.value) c.loop-left.invariant.sides
 
-pub move_page-requires-clause-next : goal.move_page-requires-clause-next
-move_page-requires-clause-next c =
-    subst (λ (xs : List PlanRow). IsTransfer (hundredths c.args.tax) (rows_of xs) c.in-Some.transfer.giver c.in-Some.transfer.taker) (c.deref.ensures.value ∙ sym c.deref_mut.ensures.value) c.in-Some.ensures.some
+pub flow_length-count-requires-clause-next : goal.flow_length-count-requires-clause-next
+flow_length-count-requires-clause-next c =
+    subst (λ (xs : List PlanRow). IsTransfer (hundredths c.args.tax) (rows_of xs) c.in-Some.transfer.giver c.in-Some.transfer.taker) (c.deref.ensures.value ∙ sym c.deref-in-loop-left.ensures.value) c.in-Some.ensures.some
 
-pub move_page-requires-clause-sides : goal.move_page-requires-clause-sides
-move_page-requires-clause-sides c = subst (λ (xs : List PlanRow). AreSides c.args.tax (rows_of xs) c.loop-left.givers c.loop-left.takers) (sym c.deref_mut.ensures.value) c.loop-left.invariant.sides
+pub flow_length-count-requires-clause-sides : goal.flow_length-count-requires-clause-sides
+flow_length-count-requires-clause-sides c = subst (λ (xs : List PlanRow). AreSides c.args.tax (rows_of xs) c.loop-left.givers c.loop-left.takers) (sym c.deref-in-loop-left.ensures.value) c.loop-left.invariant.sides
+
+pub move_pages-requires-clause-flow : goal.move_pages-requires-clause-flow
+move_pages-requires-clause-flow c =
+    subst (λ (xs : List PlanRow). IsFlow (hundredths c.args.tax) (rows_of xs) c.in-Some.transfer.giver c.in-Some.transfer.taker c.flow_length-count.result) (c.deref-in-loop-left.ensures.value ∙ sym c.deref_mut.ensures.value) c.flow_length-count.ensures.flow
+
+pub move_pages-requires-clause-sides : goal.move_pages-requires-clause-sides
+move_pages-requires-clause-sides c =
+    subst (λ (xs : List PlanRow). AreSides c.args.tax (rows_of xs) c.flow_length-count.new.givers c.flow_length-count.new.takers) (c.deref-in-loop-left.ensures.value ∙ sym c.deref_mut.ensures.value) c.flow_length-count.ensures.sides
+
+pub push-requires-clause-some : goal.push-requires-clause-some
+push-requires-clause-some c = let some = c.flow_length-count.ensures.flow.some in omega (arith, some)
 
 pub push-requires-clause-few : goal.push-requires-clause-few
-push-requires-clause-few c = few_moves (length c.loop-left.plan) c.loop-left.left c.args.limit (omega arith) c.loop-left.invariant.turns (omega arith)
+push-requires-clause-few c = few_moves (length c.loop-left.plan) c.flow_length-count.result c.loop-left.left c.args.limit c.flow_length-count.ensures.left c.loop-left.invariant.turns (omega arith)
 
 pub returns-in_err-push : goal.returns-in_err-push
 returns-in_err-push c =
@@ -152,20 +155,22 @@ loop-left-preserved c =
     let moves = c.loop-left.plan in
     let giver = c.in-Some.transfer.giver in
     let taker = c.in-Some.transfer.taker in
-    let new = c.move_page.new.rows in
+    let count = c.flow_length-count.result in
+    let new = c.move_pages.new.rows in
     let now = rows_of c.loop-left.after.items in
-    let whole = with_items_is c.loop-left.after new (c.move_page.auto.rows ∙ c.deref_mut.ensures.len) in
-    let pushed : c.push.new.self ≡ moves ++ giver ∷ [] = c.in_ok-push.ensures in
-    let next = subst (λ (xs : List PlanRow). IsTransfer tax (rows_of xs) giver taker) c.deref.ensures.value c.in-Some.ensures.some in
-    let moved = c.move_page.ensures.moved ∙ ap (λ (xs : List PlanRow). transferred (rows_of xs) giver taker) c.deref_mut.ensures.value in
-    let after = moved ∙ sym (given_is tax now giver taker (plan_rows-have_shares c.loop-left.after.items) next) ∙ ap (λ (xs : List Row). given_by tax xs giver) c.loop-left.invariant.rows in
+    let shares = plan_rows-have_shares c.loop-left.after.items in
+    let whole = with_items_is c.loop-left.after new (c.move_pages.auto.rows ∙ c.deref_mut.ensures.len) in
+    let pushed : c.push.new.self ≡ moves ++ replicate count giver = c.in_ok-push.ensures in
+    let flow = subst (λ (xs : List PlanRow). IsFlow tax (rows_of xs) giver taker count) c.deref-in-loop-left.ensures.value c.flow_length-count.ensures.flow in
+    let moved = c.move_pages.ensures.moved ∙ ap (λ (xs : List PlanRow). rows_moved (rows_of xs) giver taker count) c.deref_mut.ensures.value in
+    let after = moved ∙ sym (given_flows tax now giver taker count shares flow.each_next) ∙ ap (λ (xs : List Row). rows_given tax xs (replicate count giver)) c.loop-left.invariant.rows in
     record {
-      rows = ap (λ (xs : List PlanRow). rows_of xs) whole ∙ after ∙ sym (fold-append (given_by tax) rows moves (giver ∷ [])) ∙ ap (λ (xs : List ℕ). rows_given tax rows xs) (sym pushed);
-      sides = subst (λ (xs : List PlanRow). AreSides c.args.tax (rows_of xs) c.move_page.new.givers c.move_page.new.takers) (sym whole) c.move_page.ensures.sides;
+      rows = ap (λ (xs : List PlanRow). rows_of xs) whole ∙ after ∙ sym (fold-append (given_by tax) rows moves (replicate count giver)) ∙ ap (λ (xs : List ℕ). rows_given tax rows xs) (sym pushed);
+      sides = subst (λ (xs : List PlanRow). AreSides c.args.tax (rows_of xs) c.move_pages.new.givers c.move_pages.new.takers) (sym whole) c.move_pages.ensures.sides;
       each_next = subst (λ (xs : List ℕ). EachMove (λ before move. IsNextGiver tax (rows_given tax rows before) move) xs) (sym pushed)
-          (each_push tax rows now moves giver taker c.loop-left.invariant.rows next c.loop-left.invariant.each_next);
-      turns = ap (λ (xs : List ℕ). length xs + (c.loop-left.left - 1)) pushed ∙ one_more moves giver c.loop-left.left c.args.limit (omega arith) c.loop-left.invariant.turns;
-      few = ap (λ (xs : List PlanRow). length xs) whole ∙ c.move_page.auto.rows ∙ ap (λ (xs : List PlanRow). length xs) c.deref_mut.ensures.value ∙ c.loop-left.invariant.few;
+          (each_flow tax rows now moves giver taker count shares c.loop-left.invariant.rows flow c.loop-left.invariant.each_next);
+      turns = ap (λ (xs : List ℕ). length xs + (c.loop-left.left - count)) pushed ∙ more_moves moves giver count c.loop-left.left c.args.limit c.flow_length-count.ensures.left c.loop-left.invariant.turns;
+      few = ap (λ (xs : List PlanRow). length xs) whole ∙ c.move_pages.auto.rows ∙ ap (λ (xs : List PlanRow). length xs) c.deref_mut.ensures.value ∙ c.loop-left.invariant.few;
     }
 
 -- ---- none is wanted

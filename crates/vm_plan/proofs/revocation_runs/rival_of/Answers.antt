@@ -1,57 +1,55 @@
-use Rattle.std.proofs.Common.{◌≡◌, ℕ, ◌<◌, ◌∙◌, refl, length, List, Option, Some, None, IsNone, IfNone, IfSome, All, sym, ap, subst, slice_set}
-use Rattle.std.proofs.lemmas.List.{length-set, map-set}
-use Rattle.std.specs.Option.{option_map}
+use Rattle.std.proofs.Common.{ℕ, ◌<◌, ◌∙◌, refl, length, List, Option, None, Some, IsNone, IfNone, IfSome, All, sym, ap, subst, slice_set}
+use Rattle.std.proofs.lemmas.List.{length-set}
 use Rattle.vm_tax.specs.declared.price.Price.{Price}
 use Rattle.vm_tax.specs.Ratio.{Ratio, hundredths}
-use Rattle.vm_tax.specs.Price.{ratio_of}
-use Rattle.vm_tax.specs.Prices.{ratios_of, HaveOneTax}
+use Rattle.vm_tax.specs.Prices.{HaveOneTax}
 use Rattle.vm_tax.specs.Offers.{IsLeast}
 use Rattle.vm_tax.proofs.PriceLists.{ratios-none}
 use Rattle.vm_plan.specs.declared.tracking.Kind.TheVariants.{Revocable}
-use Rattle.vm_plan.specs.PlanRow.{rows_of}
-use Rattle.vm_plan.specs.Row.{others, revocable_ratios}
+use Rattle.vm_plan.specs.PlanRow.{row_of}
+use Rattle.vm_plan.specs.Row.{revocable_ratios}
 use Rattle.vm_plan.specs.Track.{IsTracked}
-use Rattle.vm_plan.proofs.TrackLemmas.{blank-one_tax, tracked-back, tracked-one_tax, tracked-within}
+use Rattle.vm_plan.proofs.GrantLemmas.{row_at}
+use Rattle.vm_plan.proofs.SideLemmas.{side_within}
+use Rattle.vm_plan.proofs.TrackLemmas.{blank-one_tax, blank_ratios, tracked-one_tax, tracked-restored}
 use Rattle.vm_plan.proofs.revocation_runs.rival_of.Goals as goal
-
--- the prices without that of one guest are those of the others
-blank_ratios : (tax : ℕ) (prices new : List (Option Price)) (offers : List (Option Ratio)) (k : ℕ) → ratios_of prices ≡ offers → new ≡ slice_set prices k None → ratios_of new ≡ others offers k
-blank_ratios tax prices new offers k is set = ap ratios_of set ∙ map-set (option_map ratio_of) prices k None ∙ ap (λ (xs : List (Option Ratio)). others xs k) is
 
 if_none : {P : Type 0} (o : Option ℕ) → (IsNone o → P) → IfNone o P
 if_none None h = h refl
 if_none (Some n) h = tt
 
 pub set-requires-clause-within : goal.set-requires-clause-within
-set-requires-clause-within c = tracked-within c.args.rows.now c.args.position c.requires.tracked c.requires.within
+set-requires-clause-within c = side_within c.args.rows.now c.args.position c.requires.side c.requires.within
 
 pub set-requires-clause-one_tax : goal.set-requires-clause-one_tax
-set-requires-clause-one_tax c = blank-one_tax c.args.position c.requires.tracked
+set-requires-clause-one_tax c = blank-one_tax c.args.position c.requires.side.tracked
 
 pub set-requires-2-clause-within : goal.set-requires-2-clause-within
 set-requires-2-clause-within c =
     let long = ap length c.set.ensures ∙ length-set c.args.winners.now c.args.position None in
-    subst (λ (n : ℕ). c.args.position < n) (sym long) (tracked-within c.args.rows.now c.args.position c.requires.tracked c.requires.within)
+    subst (λ (n : ℕ). c.args.position < n) (sym long) (side_within c.args.rows.now c.args.position c.requires.side c.requires.within)
 
 pub set-requires-2-clause-one_tax : goal.set-requires-2-clause-one_tax
 set-requires-2-clause-one_tax c =
-    let back = tracked-back Revocable c.args.tax c.args.winners.now c.args.rows.now c.args.position c.revocable_price.result c.index-rows-position.result c.requires.within c.index-rows-position.is c.requires.tracked c.revocable_price.ensures.ratio c.revocable_price.ensures.taxed in
+    let r = c.index-rows-position.result in
+    let at = c.requires.side.same ∙ row_at c.args.rows.now c.args.position r c.requires.within c.index-rows-position.is in
+    let back = tracked-restored Revocable c.args.tax c.args.winners.now c.requires.side.side c.args.position c.revocable_price.result (row_of r) at c.requires.side.tracked c.revocable_price.ensures.ratio c.revocable_price.ensures.taxed in
     subst (λ (xs : List (Option Price)). HaveOneTax (slice_set xs c.args.position c.revocable_price.result)) (sym c.set.ensures) (tracked-one_tax back)
 
 pub returns-clause-some : goal.returns-clause-some
-returns-clause-some c =
-    let offers = revocable_ratios (hundredths c.args.tax) (rows_of c.args.rows.now) in
-    let blank = blank_ratios c.args.tax c.args.winners.now c.set.new.self offers c.args.position c.requires.tracked.ratios c.set.ensures in
+returns-clause-some c = λ side t.
+    let blank = blank_ratios c.args.winners.now c.set.new.self (revocable_ratios (hundredths c.args.tax) side) c.args.position t.ratios c.set.ensures in
     subst (λ (xs : List (Option Ratio)). IfSome c.least-rival.result (IsLeast xs)) blank c.least-rival.ensures.least
 
 pub returns-clause-none : goal.returns-clause-none
-returns-clause-none c =
-    let offers = revocable_ratios (hundredths c.args.tax) (rows_of c.args.rows.now) in
-    let blank = blank_ratios c.args.tax c.args.winners.now c.set.new.self offers c.args.position c.requires.tracked.ratios c.set.ensures in
+returns-clause-none c = λ side t.
+    let blank = blank_ratios c.args.winners.now c.set.new.self (revocable_ratios (hundredths c.args.tax) side) c.args.position t.ratios c.set.ensures in
     if_none c.least-rival.result (λ none. subst (λ (xs : List (Option Ratio)). All IsNone xs) blank (ratios-none c.set.new.self (c.least-rival.ensures.none.0 none)))
 
-pub returns-clause-tracked : goal.returns-clause-tracked
-returns-clause-tracked c =
-    let back = tracked-back Revocable c.args.tax c.args.winners.now c.args.rows.now c.args.position c.revocable_price.result c.index-rows-position.result c.requires.within c.index-rows-position.is c.requires.tracked c.revocable_price.ensures.ratio c.revocable_price.ensures.taxed in
+pub returns-clause-side : goal.returns-clause-side
+returns-clause-side c = λ side same t.
+    let r = c.index-rows-position.result in
+    let at = same ∙ row_at c.args.rows.now c.args.position r c.requires.within c.index-rows-position.is in
+    let back = tracked-restored Revocable c.args.tax c.args.winners.now side c.args.position c.revocable_price.result (row_of r) at t c.revocable_price.ensures.ratio c.revocable_price.ensures.taxed in
     let new = c.set-2.ensures ∙ ap (λ (xs : List (Option Price)). slice_set xs c.args.position c.revocable_price.result) c.set.ensures in
-    subst (λ (xs : List (Option Price)). IsTracked Revocable c.args.tax xs (rows_of c.args.rows.now)) (sym new) back
+    subst (λ (xs : List (Option Price)). IsTracked Revocable c.args.tax xs side) (sym new) back

@@ -36,10 +36,10 @@ returns-in_default-clause-run c =
     let there = least_within tax rows c.args.position c.requires.least in
     let above = above_min tax rows c.args.position r there c.index-rows-position.is c.requires.least in
     fall_alone tax rows c.args.position c.min-most.result r there c.index-rows-position.is
-    (omega (arith, above, c.requires.wanted, c.from.ensures, c.min-most.ensures)) (omega (arith, above, c.from.ensures, c.min-most.ensures)) c.in_default.ensures.none
+    (omega (arith, above, c.requires.wanted, c.from.ensures, c.min-most.ensures)) (omega (arith, above, c.from.ensures, c.min-most.ensures)) (c.in_default.ensures.none (rows_of c.args.rows.now) c.requires.tracked)
 
 pub bounds-rows-other : goal.bounds-rows-other
-bounds-rows-other c = rival_within (hundredths c.args.tax) c.args.rows.now c.args.position c.in-Some.other c.in-Some.ensures.some
+bounds-rows-other c = rival_within (hundredths c.args.tax) c.args.rows.now c.args.position c.in-Some.other (c.in-Some.ensures.some (rows_of c.args.rows.now) c.requires.tracked)
 
 pub price_with-price-requires-clause-few : goal.price_with-price-requires-clause-few
 price_with-price-requires-clause-few c = omega (arith, c.index-rows-other.result.within_cap, c.index-rows-other.result.few_pages)
@@ -65,7 +65,7 @@ pub least_behind-requires-clause-behind : goal.least_behind-requires-clause-behi
 least_behind-requires-clause-behind c =
     let tax = hundredths c.args.tax in
     let rows = c.args.rows.now in
-    let second = c.in-Some.ensures.some in
+    let second = (c.in-Some.ensures.some (rows_of c.args.rows.now) c.requires.tracked) in
     let there = least_within tax rows c.args.position c.requires.least in
     let other = rival_within tax rows c.args.position c.in-Some.other second in
     let behind = behind_rival tax rows c.args.position c.in-Some.other c.index-rows-position.result c.index-rows-other.result there other c.index-rows-position.is c.index-rows-other.is c.requires.least second in
@@ -76,7 +76,7 @@ returns-clause-run c =
     let tax = hundredths c.args.tax in
     let rows = c.args.rows.now in
     let r = c.index-rows-position.result in
-    let second = c.in-Some.ensures.some in
+    let second = (c.in-Some.ensures.some (rows_of c.args.rows.now) c.requires.tracked) in
     let there = least_within tax rows c.args.position c.requires.least in
     let other = rival_within tax rows c.args.position c.in-Some.other second in
     let above = above_min tax rows c.args.position r there c.index-rows-position.is c.requires.least in
@@ -95,3 +95,12 @@ overflow_add-result c =
 
 pub returns-clause-wanted : goal.returns-clause-wanted
 returns-clause-wanted c = omega (arith, c.requires.wanted, c.from.ensures, c.min-most.ensures, c.least_behind.ensures.from, c.least_behind.ensures.to)
+
+pub rival_of-requires-clause-side : goal.rival_of-requires-clause-side
+rival_of-requires-clause-side c = record { side = rows_of c.args.rows.now; tracked = c.requires.tracked; same = refl }
+
+pub returns-in_default-clause-tracked : goal.returns-in_default-clause-tracked
+returns-in_default-clause-tracked c = c.rival_of.ensures.side (rows_of c.args.rows.now) refl c.requires.tracked
+
+pub returns-clause-tracked : goal.returns-clause-tracked
+returns-clause-tracked c = c.rival_of.ensures.side (rows_of c.args.rows.now) refl c.requires.tracked

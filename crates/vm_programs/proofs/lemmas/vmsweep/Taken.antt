@@ -1,15 +1,26 @@
 -- Which words are taken, as what was read of them says.
-use Rattle.std.proofs.Common.{◌≡◌, ◌∙◌, ℕ, ◌≤◌, List, Ok, inl, inr, sym, ap, subst, arith}
+use Rattle.std.proofs.Common.{◌≡◌, ◌∙◌, ℕ, ◌≤◌, ◌<◌, List, Option, None, Some, Ok, inl, inr, length, refl, sym, ap, subst, arith}
+use Rattle.std.specs.List.Sorted.{IsStrictlyIncreasing}
 use Rattle.clap.specs.Words.{Row, Text}
 use Rattle.vm_words.specs.Words.{AreTaken as AreTakenBy}
 use Rattle.vm_programs.specs.vmsweep.CommandLine.{form_of, rows_of, sweep_line}
-use Rattle.vm_programs.specs.vmsweep.Lists.{Lists, combinations, lists_of}
-use Rattle.vm_programs.specs.vmsweep.Refused.{IsFaultOf, IsMemory, IsRefusal, IsStatusOfFault}
+use Rattle.vm_programs.specs.vmsweep.Lists.{Lists, combinations, curves, lists_of, machines}
+use Rattle.vm_programs.specs.vmsweep.Refused.{HasTooManyCurves, IsFaultOf, IsFaultOfDrawing, IsMemory, IsRefusal, IsStatusOfFault, curves_fault}
 use Rattle.vm_programs.specs.vmsweep.Taken.{AreTaken, CanBeDrawn, IsStatusOfWords}
 use Rattle.vm_programs.specs.declared.vmsweep.asked.Form.{Form}
 use Rattle.vm_programs.specs.declared.vmsweep.asked.Form.TheVariants.{Drawing}
 use Rattle.vm_programs.specs.declared.vmsweep.faults.SweepFault.{SweepFault}
-use Rattle.vm_programs.specs.declared.vmsweep.faults.SweepFault.TheVariants.{BadList, TooMany, OneMachine, NotRising, TooManyCurves}
+use Rattle.vm_programs.specs.declared.vmsweep.faults.SweepFault.TheVariants.{BadList, TooMany, OneMachine, NotRising, TooManyCurves, TooManyOfFour}
+
+of_list : (lists : Lists) (list : Option (List ℕ)) → lists.rebalance ≡ list → HasTooManyCurves lists → IsFaultOfDrawing lists (curves_fault list)
+of_list lists None is many = (many, ap curves_fault is)
+of_list lists (Some values) is many = (many, ap curves_fault is)
+
+-- too many curves are a fault, whether a list for the rebalancing is given or not
+pub of_curves : (lists : Lists) (found : SweepFault) → found ≡ curves_fault lists.rebalance → 2 ≤ length (machines lists)
+    → IsStrictlyIncreasing (machines lists) → 12 < curves lists → IsFaultOfDrawing lists found
+of_curves lists found is several rise many =
+    subst (IsFaultOfDrawing lists) (sym is) (of_list lists lists.rebalance refl (several, rise, many))
 
 -- lists that are taken have no fault
 faultless : (form : Form) (lists : Lists) (fault : SweepFault) → combinations lists ≤ 10000 → (form ≡ Drawing → CanBeDrawn lists)
@@ -18,7 +29,8 @@ faultless form lists (BadList key fault) few drawn is = is.2
 faultless form lists TooMany few drawn is = omega arith
 faultless form lists OneMachine few drawn is = let several = (drawn is.1).several in let one = is.2 in omega arith
 faultless form lists NotRising few drawn is = is.2.1 (drawn is.1).rising
-faultless form lists TooManyCurves few drawn is = let few = (drawn is.1).few in let more = is.2.2 in omega arith
+faultless form lists TooManyCurves few drawn is = let few = (drawn is.1).few in let more = is.2.0.2 in omega arith
+faultless form lists TooManyOfFour few drawn is = let few = (drawn is.1).few in let more = is.2.0.2 in omega arith
 
 module _ (words : List Text) (rows : List Row) (same : rows ≡ rows_of words) where
   -- words with a fault are not taken

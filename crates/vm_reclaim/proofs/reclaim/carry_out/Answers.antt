@@ -1,8 +1,8 @@
 use Rattle.std.proofs.Common.{◌≡◌, ℕ, List, subst, sym}
-use Rattle.vm_pool.specs.CanMove.{CanGrant}
+use Rattle.vm_pool.specs.CanMove.{CanGrant, CanRevoke}
 use Rattle.vm_pool.specs.Pool.{PoolView}
 use Rattle.vm_reclaim.specs.declared.lists.Paged.{Paged}
-use Rattle.vm_reclaim.specs.Boundary.{with_falls, with_paging, CanGiveUp}
+use Rattle.vm_reclaim.specs.Boundary.{with_falls, with_paging, with_rises, CanGiveUp}
 use Rattle.vm_reclaim.proofs.reclaim.carry_out.Goals as goal
 
 -- what a plan can still do is so of the same frames and the same list
@@ -17,6 +17,12 @@ give_up_all-requires c = can-give (with_falls c.args.plan.now c.args.pool.now) _
 
 pub grant_all-requires : goal.grant_all-requires
 grant_all-requires c = can-rise (with_paging c.args.plan.now c.args.pool.now) c.give_up_all.new.pool c.args.plan.now.granted (cc) c.requires.can_rise
+
+can-fall : (rises pool : PoolView) (moves : List ℕ) → pool ≡ rises → CanRevoke rises moves → CanRevoke pool moves
+can-fall rises pool moves same can = subst (λ (p : PoolView). CanRevoke p moves) (sym same) can
+
+pub revoke_all-requires-2 : goal.revoke_all-requires-2
+revoke_all-requires-2 c = can-fall (with_rises c.args.plan.now c.args.pool.now) c.grant_all.new.pool c.args.plan.now.rebalanced (cc) c.requires.can_rebalance
 
 pub returns : goal.returns
 returns c = cc

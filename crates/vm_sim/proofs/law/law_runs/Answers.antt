@@ -1,4 +1,4 @@
-use Rattle.vm_sim.proofs.HeadlineLemmas.{adds-up, reads-last-writes, revokes-fairly}
+use Rattle.vm_sim.proofs.HeadlineLemmas.{adds-up, reads-last-writes, rebalances-fairly, revokes-fairly}
 use Rattle.vm_sim.proofs.law.law_runs.Goals as goal
 
 pub returns-clause-reads : goal.returns-clause-reads
@@ -9,3 +9,6 @@ returns-clause-conservation c = λ config is. adds-up config is c.law_course.ens
 
 pub returns-clause-revocations : goal.returns-clause-revocations
 returns-clause-revocations c = λ config is. revokes-fairly config is c.law_course.ensures c.law_boundary.ensures.fair
+
+pub returns-clause-rebalancing : goal.returns-clause-rebalancing
+returns-clause-rebalancing c = λ config is. rebalances-fairly config is c.law_course.ensures c.law_boundary.ensures.rebalanced

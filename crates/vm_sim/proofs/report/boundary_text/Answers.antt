@@ -6,10 +6,10 @@ use Rattle.vm_sim.specs.Report.{answer_lines, block_line_at, boundary_text, move
 use Rattle.vm_sim.proofs.report.boundary_text.Goals as goal
 
 -- the pieces, one behind the other
-pieces : (word number end answers state revoked paged granted blocked : List ℕ)
-    → ((((((word ++ (number ++ end)) ++ answers) ++ state) ++ revoked) ++ paged) ++ granted) ++ blocked
-    ≡ word ++ (number ++ (end ++ (answers ++ (state ++ (revoked ++ (paged ++ (granted ++ blocked)))))))
-pieces word number end answers state revoked paged granted blocked = simp append_assoc
+pieces : (word number end answers state revoked paged granted rebalanced blocked : List ℕ)
+    → (((((((word ++ (number ++ end)) ++ answers) ++ state) ++ revoked) ++ paged) ++ granted) ++ rebalanced) ++ blocked
+    ≡ word ++ (number ++ (end ++ (answers ++ (state ++ (revoked ++ (paged ++ (granted ++ (rebalanced ++ blocked))))))))
+pieces word number end answers state revoked paged granted rebalanced blocked = simp append_assoc
 
 pub returns : goal.returns
 unfolding boundary_text
@@ -18,6 +18,7 @@ returns c =
     let b = c.args.boundary.now in
     rw (
       c.in_ok-push_blocked.ensures,
+      c.in_ok-push_moves-3.ensures,
       c.in_ok-push_moves-2.ensures,
       c.in_ok-push_paged.ensures,
       c.in_ok-push_moves.ensures,
@@ -27,4 +28,4 @@ returns c =
       c.as_slice.ensures,
       c.as_slice-2.ensures,
       c.as_slice-3.ensures,
-    ) (pieces (codes "epoch ") (decimal c.args.number) (codes "\n") (flat_map (answer_lines w) b.answers) (state_line b.state b.free) (move_lines (codes "revoke") w b.revoked) (flat_map (page_line w) b.paged) (move_lines (codes "grant") w b.granted) (flat_map (block_line_at w) b.blocked))
+    ) (pieces (codes "epoch ") (decimal c.args.number) (codes "\n") (flat_map (answer_lines w) b.answers) (state_line b.state b.free) (move_lines (codes "revoke") w b.revoked) (flat_map (page_line w) b.paged) (move_lines (codes "grant") w b.granted) (move_lines (codes "rebalance") w b.rebalanced) (flat_map (block_line_at w) b.blocked))

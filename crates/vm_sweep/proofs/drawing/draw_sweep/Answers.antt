@@ -1,7 +1,6 @@
 use Rattle.std.proofs.Common.{◌≡◌, ◌∙◌, ℕ, List, Option, Some, None, Result, Ok, Err, IfErr, inl, inr, refl, rules, subst, sym}
 use Rattle.std.specs.Io.KnownBytes.{Appends, Keeps}
 use Rattle.vm_config.specs.declared.config.Config.{Config}
-use Rattle.vm_config.specs.Outcomes.{IsOrMemory}
 use Rattle.vm_config.specs.Reading.{config_of}
 use Rattle.vm_sim.specs.declared.run_error.RunError.{RunError}
 use Rattle.vm_sim.specs.declared.run_error.RunError.TheVariants.{Write, Memory}
@@ -9,15 +8,12 @@ use Rattle.vm_sim.specs.Run.{MeansConfig}
 use Rattle.vm_streams.specs.Streams.{AppendsFront}
 use Rattle.vm_sweep.specs.Combinations.{ValueLists}
 use Rattle.vm_sweep.specs.Drawn.{FailsOnDrawing, drawing_of}
+use Rattle.vm_sweep.proofs.TableLemmas.{was-read}
 use Rattle.vm_sweep.proofs.drawing.draw_sweep.Goals as goal
 
 keeps : (x : Option (List ℕ)) → Keeps x x
 keeps None = tt
 keeps (Some bytes) = refl
-
-read : (config : Config) (text : List ℕ) → IsOrMemory (Ok config) (config_of text) → config_of text ≡ Ok config
-read config text (inl is) = sym is
-read config text (inr is) = cc
 
 memory-fails : {T : Type 0} (result : Result T RunError) → IfErr result (λ e. e ≡ Memory) → (x : Option (List ℕ)) (lists : ValueLists) (text : List ℕ)
     → IfErr result (FailsOnDrawing x x lists text)
@@ -39,14 +35,14 @@ returns-in_err-write_text-clause-failed g c =
     let new = g.W.Sink.contents c.write_text.new.writer in
     write-fails c.from_residual-in_err-write_text.result (search rules) old new c.args.lists.now c.args.text.now (
       c.in_ok-config.config,
-      read c.in_ok-config.config c.args.text.now c.in_ok-config.ensures.config,
+      was-read c.in_ok-config.config c.args.text.now c.in_ok-config.ensures.config,
       subst (AppendsFront old new) (c.deref.ensures.value ∙ c.in_ok-drawing.ensures) c.in_err-write_text.ensures.front,
     )
 
 pub returns-clause-done : goal.returns-clause-done
 returns-clause-done g c = (
   c.in_ok-config.config,
-  read c.in_ok-config.config c.args.text.now c.in_ok-config.ensures.config,
+  was-read c.in_ok-config.config c.args.text.now c.in_ok-config.ensures.config,
   subst (Appends (g.W.Sink.contents c.args.writer.now) (g.W.Sink.contents c.write_text.new.writer)) (c.deref.ensures.value ∙ c.in_ok-drawing.ensures)
       c.in_ok-write_text.ensures.written,
 )

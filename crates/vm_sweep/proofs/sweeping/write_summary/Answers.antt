@@ -5,4 +5,4 @@ use Rattle.vm_sweep.proofs.sweeping.write_summary.Goals as goal
 
 pub returns-in_err-text-clause-failed : goal.returns-in_err-text-clause-failed
 returns-in_err-text-clause-failed g c =
-    memory-here c.from_residual.result (search rules) _ _ (record_text c.args.combination.now c.args.summary.now ∷ []) _ (told-none _ _)
+    memory-here c.from_residual.result (search rules) _ _ (record_text c.args.rebalancing c.args.combination.now c.args.summary.now ∷ []) _ (told-none _ _)

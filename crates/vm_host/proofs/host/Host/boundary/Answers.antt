@@ -1,12 +1,12 @@
 use Rattle.std.proofs.Common.{◌∙◌, ◌<◌, ℕ, List, ⊎_elim, ap, arith, inl, inr, length, map, refl, string_bytes, subst, sym}
 use Rattle.std.proofs.lemmas.List.{length-map}
 use Rattle.vm_host.specs.Boundary.{boundary_of, past_boundary, FailsAfterSome}
-use Rattle.vm_host.specs.Fairness.{IsFairBoundary}
+use Rattle.vm_host.specs.Fairness.{IsFairBoundary, IsFairRebalancing}
 use Rattle.vm_host.specs.Parts.{world_of}
 use Rattle.vm_host.specs.Sound.{IsSoundWorld}
 use Rattle.vm_host.specs.World.{Conserves, FailsFrom, World}
 use Rattle.vm_host.proofs.FailLemmas.{fails-from, fails-some, fails-whole, paired-kept}
-use Rattle.vm_host.proofs.FairnessLemmas.{fair-bounded}
+use Rattle.vm_host.proofs.FairnessLemmas.{fair-bounded, fair-rebalanced}
 use Rattle.vm_host.proofs.KeptLemmas.{ready-bounded}
 use Rattle.vm_host.proofs.LineLemmas.{bounded-sound}
 use Rattle.vm_host.proofs.PhaseLemmas.{failed-memory, is-failed, memory-failed, not-failed, ok-err}
@@ -114,6 +114,15 @@ returns-in-Ok-clause-fair c =
     let fair = fair-bounded (policy_of w.machine) w lines (c.self.invariant.sound fails) in
     subst (λ (l : List (List ℕ)). IsFairBoundary (policy_of c.args.self.now.machine) c.args.self.now l) c.as_slice.ensures
     (subst (λ (v : World). IsFairBoundary (policy_of v.machine) v lines) c.self.view_is fair)
+
+pub returns-in-Ok-clause-rebalanced : goal.returns-in-Ok-clause-rebalanced
+returns-in-Ok-clause-rebalanced c =
+    let w = world_of c.self.inside.parts in
+    let lines = map string_bytes c.as_slice.result.now in
+    let fails = not-failed w.phase (sym c.eq.ensures ∙ c.if-eq.false) in
+    let fair = fair-rebalanced (policy_of w.machine) w lines (c.self.invariant.sound fails) in
+    subst (λ (l : List (List ℕ)). IsFairRebalancing (policy_of c.args.self.now.machine) c.args.self.now l) c.as_slice.ensures
+    (subst (λ (v : World). IsFairRebalancing (policy_of v.machine) v lines) c.self.view_is fair)
 
 -- ---- memory was refused
 

@@ -73,6 +73,22 @@ returns-clause-guests c = record {
   workers_are = refl;
 }
 
+pub returns-clause-rebalance : goal.returns-clause-rebalance
+unfolding clap_on_literals AreTaken asked command_line flag_option has_flag number_of text_of value_option sweep_line limits_of word_of given list_of item_of written_of range_written number_written values_of value_of digits_in hundredths_of spaced
+returns-clause-rebalance c = record {
+  taken = record {
+    formed = record { faultless = refl; apart = refl; fit = refl };
+    lists = record no_lists { rebalance = Some (0 ∷ 32 ∷ 64 ∷ 262144 ∷ []) };
+    read = refl;
+    few = omega arith;
+    drawn = λ drawing. absurd cc;
+  };
+  lists_are = refl;
+  form_is = refl;
+  progress_is = refl;
+  workers_are = refl;
+}
+
 pub returns-clause-drawing : goal.returns-clause-drawing
 unfolding clap_on_literals AreTaken asked command_line flag_option has_flag number_of text_of value_option sweep_line limits_of word_of given list_of item_of written_of range_written number_written values_of value_of digits_in hundredths_of spaced
 returns-clause-drawing c = record {
@@ -109,6 +125,10 @@ pub returns-clause-in_order : goal.returns-clause-in_order
 unfolding clap_on_literals AreTaken asked command_line flag_option has_flag number_of text_of value_option sweep_line limits_of word_of given list_of item_of written_of range_written number_written values_of value_of digits_in hundredths_of spaced
 returns-clause-in_order c = refused-for _ _ (record { faultless = refl; apart = refl; fit = refl }) (λ memory. absurd cc) (inl (inl refl))
 
+pub returns-clause-too_far : goal.returns-clause-too_far
+unfolding clap_on_literals AreTaken asked command_line flag_option has_flag number_of text_of value_option sweep_line limits_of word_of given list_of item_of written_of range_written number_written values_of value_of digits_in hundredths_of spaced
+returns-clause-too_far c = refused-for _ _ (record { faultless = refl; apart = refl; fit = refl }) (λ memory. absurd cc) (inl (inl refl))
+
 pub returns-clause-too_many : goal.returns-clause-too_many
 unfolding clap_on_literals AreTaken asked command_line flag_option has_flag number_of text_of value_option sweep_line limits_of word_of given list_of item_of written_of range_written number_written values_of value_of digits_in hundredths_of spaced
 returns-clause-too_many c = refused-for _ _ (record { faultless = refl; apart = refl; fit = refl }) (λ memory. memory) (inr (_, refl, omega arith))
@@ -127,7 +147,11 @@ returns-clause-same_machine c = refused-for _ _ (record { faultless = refl; apar
 
 pub returns-clause-too_many_curves : goal.returns-clause-too_many_curves
 unfolding clap_on_literals AreTaken asked command_line flag_option has_flag number_of text_of value_option sweep_line limits_of word_of given list_of item_of written_of range_written number_written values_of value_of digits_in hundredths_of spaced
-returns-clause-too_many_curves c = refused-for _ _ (record { faultless = refl; apart = refl; fit = refl }) (λ memory. memory) (inr (_, refl, (omega arith, refl, (omega arith, two-rise 8 9 (omega arith), omega arith))))
+returns-clause-too_many_curves c = refused-for _ _ (record { faultless = refl; apart = refl; fit = refl }) (λ memory. memory) (inr (_, refl, (omega arith, refl, ((omega arith, two-rise 8 9 (omega arith), omega arith), refl))))
+
+pub returns-clause-too_many_of_four : goal.returns-clause-too_many_of_four
+unfolding clap_on_literals AreTaken asked command_line flag_option has_flag number_of text_of value_option sweep_line limits_of word_of given list_of item_of written_of range_written number_written values_of value_of digits_in hundredths_of spaced
+returns-clause-too_many_of_four c = refused-for _ _ (record { faultless = refl; apart = refl; fit = refl }) (λ memory. memory) (inr (_, refl, (omega arith, refl, ((omega arith, two-rise 8 9 (omega arith), omega arith), refl))))
 
 pub returns-clause-beside : goal.returns-clause-beside
 unfolding clap_on_literals AreTaken asked command_line flag_option has_flag number_of text_of value_option sweep_line limits_of word_of given list_of

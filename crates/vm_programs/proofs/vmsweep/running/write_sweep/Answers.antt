@@ -20,3 +20,7 @@ new-lists-requires-clause-tax g c = in-range setting.Tax (limits_of key.Tax) ref
 pub new-lists-requires-clause-page_rate : goal.new-lists-requires-clause-page_rate
 unfolding limits_of
 new-lists-requires-clause-page_rate g c = in-range setting.PageRate (limits_of key.PageRate) refl refl _ c.requires.within.page_rate
+
+pub new-lists-requires-clause-rebalance : goal.new-lists-requires-clause-rebalance
+unfolding limits_of
+new-lists-requires-clause-rebalance g c = in-range setting.Rebalance (limits_of key.Rebalance) refl refl _ c.requires.within.rebalance

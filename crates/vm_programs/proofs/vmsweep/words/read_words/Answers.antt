@@ -15,7 +15,7 @@ returns-in_err-request-clause-refused g c =
     c.in_err-request.ensures.refused c.from_residual.ensures.1
 
 pub asked_of-requires : goal.asked_of-requires
-asked_of-requires g c = for-some _ _ c.in_ok-request.ensures.numbers.1.1.1.1.0
+asked_of-requires g c = for-some _ _ c.in_ok-request.ensures.numbers.1.1.1.1.1.0
 
 pub returns-in-Ok-clause-lists : goal.returns-in-Ok-clause-lists
 unfolding sweep_line

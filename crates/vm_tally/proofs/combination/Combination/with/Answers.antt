@@ -13,6 +13,7 @@ invariant_of-other-in-Tax c =
       swap = is.swap;
       tax = subst (λ (s : Setting). IsInRange s c.args.value) c.in-Tax.is c.requires;
       page_rate = is.page_rate;
+      rebalance = is.rebalance;
     }
 
 -- src/combination.rt:60:5

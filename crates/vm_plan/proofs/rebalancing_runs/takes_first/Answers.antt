@@ -1,0 +1,40 @@
+use Rattle.std.proofs.Common.{ℕ, ◌+◌, ◌<◌, Option, IfSome, length, slice_get, sym, subst, arith}
+use Rattle.std.proofs.lemmas.Option.{slice_get_read}
+use Rattle.vm_tax.specs.Price.{ratio_of}
+use Rattle.vm_tax.specs.Ratio.{Ratio, IsAbove, hundredths}
+use Rattle.vm_plan.specs.declared.row.PlanRow.{PlanRow}
+use Rattle.vm_plan.specs.PlanRow.{rows_of}
+use Rattle.vm_plan.specs.Row.{Row, ratio_with}
+use Rattle.vm_plan.specs.Runs.{TakesFirst}
+use Rattle.vm_plan.proofs.GrantLemmas.{row_at}
+use Rattle.vm_plan.proofs.rebalancing_runs.takes_first.Goals as goal
+
+pub bounds-rows-other : goal.bounds-rows-other
+bounds-rows-other c = subst (λ (o : Option ℕ). IfSome o (λ other. other < length c.args.rows.now)) c.in-Some.is c.requires.within
+
+pub price_with-requires-clause-few : goal.price_with-requires-clause-few
+price_with-requires-clause-few c =
+    let rows = c.args.rows.now in
+    let r = c.index-rows-other.result in
+    let there = subst (λ (o : Option ℕ). IfSome o (λ other. other < length rows)) c.in-Some.is c.requires.within in
+    let grows = subst (λ (o : Option ℕ). IfSome o (λ other. IfSome (slice_get rows other) (λ row. row.target < row.cap))) c.in-Some.is c.requires.room in
+    let room = subst (λ (o : Option PlanRow). IfSome o (λ row. row.target < row.cap)) (slice_get_read rows (length rows) c.in-Some.other r (omega arith) there c.index-rows-other.is) grows in
+    omega (arith, room, r.few_pages)
+
+pub returns : goal.returns
+returns c =
+    let tax = hundredths c.args.tax in
+    let rows = c.args.rows.now in
+    let price = ratio_of c.args.price.now in
+    let position = c.args.position in
+    let other = c.in-Some.other in
+    let r = c.index-rows-other.result in
+    let there = subst (λ (o : Option ℕ). IfSome o (λ other. other < length rows)) c.in-Some.is c.requires.within in
+    let at = row_at rows other r there c.index-rows-other.is in (
+      λ yes. subst (λ (o : Option ℕ). TakesFirst tax (rows_of rows) price position o) (sym c.in-Some.is)
+          (subst (λ (o : Option Row). IfSome o (λ row. IsAbove price position (ratio_with tax row (row.target + 1)) other)) (sym at)
+          (subst (λ (that : Ratio). IsAbove price position that other) c.price_with.ensures.ratio (c.is_above.ensures.0 yes))),
+      λ first. c.is_above.ensures.1 (subst (λ (that : Ratio). IsAbove price position that other) (sym c.price_with.ensures.ratio)
+          (subst (λ (o : Option Row). IfSome o (λ row. IsAbove price position (ratio_with tax row (row.target + 1)) other)) at
+          (subst (λ (o : Option ℕ). TakesFirst tax (rows_of rows) price position o) c.in-Some.is first))),
+    )
