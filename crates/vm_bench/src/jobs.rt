@@ -8,6 +8,7 @@ use crate::import::import;
 use crate::months::months;
 use crate::policy::policy;
 use crate::series::series;
+use crate::steps::steps;
 use crate::sweep::sweep;
 use std::alloc::Global;
 use std::thread::Threads;
@@ -25,10 +26,11 @@ pub enum Job {
     Series,
     Sweep,
     Import,
+    Steps,
 }
 
 /// All jobs.
-pub const JOBS: [Job; 9] = [
+pub const JOBS: [Job; 10] = [
     Job::Day,
     Job::Months,
     Job::Fleet,
@@ -38,6 +40,7 @@ pub const JOBS: [Job; 9] = [
     Job::Series,
     Job::Sweep,
     Job::Import,
+    Job::Steps,
 ];
 
 impl Job {
@@ -53,13 +56,15 @@ impl Job {
             Job::Series => "series",
             Job::Sweep => "sweep",
             Job::Import => "import",
+            Job::Steps => "steps",
         }
     }
 
-    /// Whether the word `all` stands for it too. It does not for [`Job::Series`], since `policy` makes the same calls, and not for
-    /// [`Job::Sweep`] and [`Job::Import`], since the stored runs of `vmsweep` and `vmtrace` show what they make.
+    /// Whether the word `all` stands for it too. It does not for [`Job::Series`], since `policy` makes the same calls, not for
+    /// [`Job::Sweep`] and [`Job::Import`], since the stored runs of `vmsweep` and `vmtrace` show what they make, and not for
+    /// [`Job::Steps`], since its text is of version 3 and those of `all` are of version 2.
     pub fn is_in_all(self) -> bool {
-        !matches!(self, Job::Series | Job::Sweep | Job::Import)
+        !matches!(self, Job::Series | Job::Sweep | Job::Import | Job::Steps)
     }
 
     /// Does it on inputs of this seed, and gives the digest of its results. `part` is how many times smaller the inputs are.
@@ -81,6 +86,7 @@ impl Job {
             Job::Series => series(rt, alloc, seed, part, &mut digest)?,
             Job::Sweep => sweep(rt, alloc, seed, part, &mut digest)?,
             Job::Import => import(alloc, seed, part, &mut digest)?,
+            Job::Steps => steps(rt, alloc, seed, part, &mut digest)?,
         }
         Ok(digest)
     }

@@ -144,6 +144,32 @@ impl Text {
         Ok(())
     }
 
+    // A step of this letter over so many pages from one on.
+    fn range_step(&mut self, letter: &str, page: u32, count: u32) -> Result<(), AllocError> {
+        self.push(",\"")?;
+        self.push(letter)?;
+        self.push(" ")?;
+        self.number(page)?;
+        self.push(" ")?;
+        self.number(count)?;
+        self.push("\"")
+    }
+
+    /// A step that touches so many pages from one on.
+    pub fn touch_step(&mut self, page: u32, count: u32) -> Result<(), AllocError> {
+        self.range_step("t", page, count)
+    }
+
+    /// A step that frees so many pages from one on.
+    pub fn free_step(&mut self, page: u32, count: u32) -> Result<(), AllocError> {
+        self.range_step("f", page, count)
+    }
+
+    /// A step that yields.
+    pub fn yield_step(&mut self) -> Result<(), AllocError> {
+        self.push(",\"y\"")
+    }
+
     /// A step that posts a buffer of so many random pages to the queue of this letter.
     pub fn post_step(
         &mut self,
@@ -205,9 +231,19 @@ impl Text {
         self.push("\"}")
     }
 
-    // A machine behind it, up to its guests.
+    // The version behind it, and what only texts of version 3 say.
+    fn push_version(&mut self, rebalance: Option<u32>) -> Result<(), AllocError> {
+        match rebalance {
+            Some(pages) => {
+                self.push("{\"version\":3")?;
+                self.field("rebalance", pages)
+            }
+            None => self.push("{\"version\":2"),
+        }
+    }
+
+    // The numbers of a machine behind it, each with a comma before.
     fn push_machine(&mut self, machine: &Machine) -> Result<(), AllocError> {
-        self.push("{\"version\":2")?;
         self.field("frames", machine.frames)?;
         self.field("swap", SWAP)?;
         self.field("tax", machine.tax)?;
@@ -218,6 +254,7 @@ impl Text {
 
     // A whole configuration behind it.
     fn push_whole(&mut self, machine: &Machine, draft: &Draft) -> Result<(), AllocError> {
+        self.push_version(draft.rebalance)?;
         self.push_machine(machine)?;
         self.push(",\"guests\":[")?;
         self.bytes.extend_from_slice(draft.guests.as_bytes())?;
@@ -227,19 +264,31 @@ impl Text {
     }
 }
 
-/// The guests and the commands of a configuration.
+/// The guests and the commands of a configuration, which is of version 3 where it says how many pages rebalancing moves at a
+/// boundary, and else of version 2.
 #[derive(Drop)]
 pub struct Draft {
     pub guests: Text,
     pub commands: Text,
+    pub rebalance: Option<u32>,
 }
 
 impl Draft {
-    /// None so far.
+    /// None so far, of version 2.
     pub fn new(alloc: Global) -> Self {
         Draft {
             guests: Text::new(alloc),
             commands: Text::new(alloc),
+            rebalance: None,
+        }
+    }
+
+    /// None so far, of version 3 with so many pages that rebalancing moves.
+    pub fn rebalanced(alloc: Global, pages: u32) -> Self {
+        Draft {
+            guests: Text::new(alloc),
+            commands: Text::new(alloc),
+            rebalance: Some(pages),
         }
     }
 
