@@ -1,7 +1,6 @@
 -- The bytes that pairs of hexadecimal digits spell, one by one.
 use Rattle.std.proofs.Common.{◌≡◌, ◌∙◌, map, ℕ, zero, suc, ◌+◌, ◌-◌, ◌*◌, ◌%◌, ◌<◌, Bool, true, false, nat_lt, ◌&&◌, if◌then◌else◌, Some, None, List, [], ◌∷◌, ◌++◌, length, get_or, take, refl, ap, arith}
 use Rattle.std.proofs.lemmas.Bool.{and_parts, eqb-true}
-use Rattle.std.proofs.lemmas.List.Folds.{list_all_more}
 use Rattle.std.proofs.lemmas.List.FromFn.{get_or-map-range_with_len}
 use Rattle.std.specs.Char.{digit_value}
 use Rattle.std.specs.List.{range_with_len, list_all}
@@ -37,16 +36,6 @@ pair_from high low byte h =
     let test = taken (nat_lt (digit_value high) 16 && nat_lt (digit_value low) 16) _ byte h in
     let both = and_parts _ _ test.0 in
     (both.0, both.1, test.1)
-
--- the digits of one byte more
-pub digits_of_more : (i : ℕ) (ds : List ℕ) → 2 * i + 1 < length ds → list_all (λ c. nat_lt (digit_value c) 16) (take (2 * i) ds) ≡ true
-    → nat_lt (digit_value (get_or ds (2 * i) 0)) 16 ≡ true → nat_lt (digit_value (get_or ds (2 * i + 1) 0)) 16 ≡ true
-    → list_all (λ c. nat_lt (digit_value c) 16) (take (2 * (i + 1)) ds) ≡ true
-digits_of_more i ds inside before high low =
-    let is_digit : ℕ → Bool = λ c. nat_lt (digit_value c) 16 in
-    let two : 2 * (i + 1) ≡ 2 * i + 1 + 1 = omega arith in
-    let one : list_all is_digit (take (2 * i + 1) ds) ≡ true = list_all_more is_digit ds (2 * i) 0 (omega arith) ∙ rw (before, high) refl in
-    rw two (list_all_more is_digit ds (2 * i + 1) 0 inside ∙ rw (one, low) refl)
 
 -- there is a byte for each two digits
 pub length-hex_pairs : (ds : List ℕ) → 2 * length (hex_pairs ds) + length ds % 2 ≡ length ds

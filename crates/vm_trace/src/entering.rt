@@ -13,7 +13,7 @@ use crate::entry::Item;
 use crate::error::{PushError, TraceError};
 use crate::limits::StepLimits;
 use crate::parse::steps_of;
-use crate::plain::plain_item;
+use crate::plain::{plain_access, plain_item};
 use crate::step::Action;
 use crate::text_steps::{Row, TextSteps, are_within};
 use std::alloc::AllocError;
@@ -62,14 +62,15 @@ pub(crate) fn keep_pairs(store: &mut Vec<u8>, text: &[u8]) -> Result<Option<u32>
         return Ok(None);
     }
     let start = next_place(store)?;
-    let count = text.len() / 2;
-    store.reserve(count)?;
-    for i in 0..count {
-        let Some(byte) = pair_of(text[2 * i], text[2 * i + 1]) else {
+    store.reserve(text.len() / 2)?;
+    let mut left = text;
+    while let [high, low, rest @ ..] = left {
+        let Some(byte) = pair_of(*high, *low) else {
             store.truncate(start as usize);
             return Ok(None);
         };
         store.push_reserved(byte);
+        left = rest;
     }
     Ok(Some(start))
 }
@@ -154,7 +155,30 @@ fn other_item(
     }
 }
 
-// The item of the steps that a text stands for, whose bytes it puts behind the others.
+// The item of a read or a write that is spelled plainly, whose bytes it puts behind the others; `None` for another text.
+#[inline(always)]
+pub(crate) fn access_of_text(
+    store: &mut Vec<u8>,
+    text: &str,
+    limits: StepLimits,
+    size: u32,
+) -> Result<Option<Item>, AllocError>
+    requires { limits.pages ≤ 262144 }
+    ensures item { IfOk result (λ found. IfSome found (IsItemOf limits size text.now store.old.items store.new.items)) }
+    ensures none { IfOk result (λ found. found ≡ None → store.new.items ≡ store.old.items) }
+    ensures err { OnErr result (store.new.items ≡ store.old.items) }
+{
+    let both = StepLimits {
+        pages: limits.pages.min(size),
+        version_3: limits.version_3,
+    };
+    let Some(item) = plain_access(store, text.as_bytes(), both)? else {
+        return Ok(None);
+    };
+    Ok(Some(item))
+}
+
+// The item of the steps that a text stands for, whose bytes it puts behind the others: of a text for which `access_of_text` has none.
 pub(crate) fn item_of_text(
     store: &mut Vec<u8>,
     text: &str,

@@ -148,6 +148,7 @@ pub(crate) fn kind_of(part: Part) -> StepKind
 }
 
 // The bytes that each step of an item brings along, where they lie.
+#[inline(always)]
 pub(crate) fn bytes_of(bytes: &[u8], item: Item) -> &[u8]
     requires within { end_of item ≤ length bytes.now }
     ensures { (before : ℕ) → result.now ≡ bytes_of (action_at bytes.now item before) }

@@ -30,6 +30,8 @@ pub(crate) fn steps_behind(steps: u32, item: Item) -> Option<u32>
 }
 
 // The step at a place, where entries count more than one.
+#[cold]
+#[inline(never)]
 fn counted_part_at(entries: &[Entry], steps: u32, place: usize) -> Option<Part>
     requires { AreNumbered steps entries.now }
     ensures some { IfSome result (IsPartAt entries.now place) }

@@ -277,7 +277,34 @@ fn actual(rest: &[u8], limits: StepLimits) -> Option<Item>
     Some(Item::Actual { pages })
 }
 
-// The item of a text that is spelled plainly, and `None` for another text, which need not be faulty.
+// The item of a read or a write that is spelled plainly, and `None` for another text, which need not be faulty.
+#[inline(always)]
+pub(crate) fn plain_access(
+    store: &mut Vec<u8>,
+    text: &[u8],
+    limits: StepLimits,
+) -> Result<Option<Item>, AllocError>
+    ensures item { IfOk result (λ found. IfSome found (IsEntered limits text.now store.old.items store.new.items)) }
+    ensures none { IfOk result (λ found. found ≡ None → store.new.items ≡ store.old.items) }
+    ensures err { OnErr result (store.new.items ≡ store.old.items) }
+{
+    let [kind, b' ', rest @ ..] = text else {
+        return Ok(None);
+    };
+    if *kind != b'r' && *kind != b'w' {
+        return Ok(None);
+    }
+    let Some(place) = place_in_front(rest, limits.pages) else {
+        return Ok(None);
+    };
+    match *kind {
+        b'r' => Ok(read(place)),
+        b'w' => write(store, place),
+        _ => Ok(None),
+    }
+}
+
+// The item of another step that is spelled plainly, and `None` for another text, which need not be faulty.
 pub(crate) fn plain_item(
     store: &mut Vec<u8>,
     text: &[u8],
@@ -291,18 +318,10 @@ pub(crate) fn plain_item(
         return Ok(letter(text, limits));
     };
     match *kind {
-        b'p' => return post(store, text, limits),
-        b't' => return Ok(touches(rest, limits)),
-        b'f' => return Ok(frees(rest, limits)),
-        b'a' => return Ok(actual(rest, limits)),
-        _ => {}
-    }
-    let Some(place) = place_in_front(rest, limits.pages) else {
-        return Ok(None);
-    };
-    match *kind {
-        b'r' => Ok(read(place)),
-        b'w' => write(store, place),
+        b't' => Ok(touches(rest, limits)),
+        b'f' => Ok(frees(rest, limits)),
+        b'a' => Ok(actual(rest, limits)),
+        b'p' => post(store, text, limits),
         _ => Ok(None),
     }
 }

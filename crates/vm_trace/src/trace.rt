@@ -6,7 +6,7 @@ ghost use Rattle.vm_trace.specs.Kinds.{bytes_in, with_bytes};
 ghost use Rattle.vm_trace.specs.Limits.{IsStep};
 ghost use Rattle.vm_trace.specs.Sized.{steps_with, AreAdded};
 
-use crate::entering::{item_of, item_of_text};
+use crate::entering::{access_of_text, item_of, item_of_text};
 use crate::entry::{Entry, action_at, bytes_of, kind_of};
 use crate::error::{PushError, TraceError};
 use crate::kind::StepKind;
@@ -121,6 +121,29 @@ impl Trace {
         ensures fault { (fault : TraceError) → result ≡ Err (Fault fault) → steps_with limits size text.now self.old ≡ Err fault }
         ensures err { OnErr result (self.new ≡ self.old) }
     {
+        let Some(item) = access_of_text(&mut self.bytes, text, limits, size)? else {
+            return self.push_other(text, limits, size);
+        };
+        let Some(all) = steps_behind(self.steps, item) else {
+            return Err(PushError::Fault(TraceError::Range));
+        };
+        let first = self.steps;
+        let Ok(()) = self.entries.push(Entry { first, item }) else {
+            return Err(PushError::Memory);
+        };
+        self.steps = all;
+        Ok(())
+    }
+
+    // As `push_text`, and for most texts slower. Not inlined, so that what is built of a read or a write is kept at once.
+    #[inline(never)]
+    fn push_other(&mut self, text: &str, limits: StepLimits, size: u32) -> Result<(), PushError>
+        requires some { 1 ≤ limits.pages }
+        requires few { limits.pages ≤ 262144 }
+        ensures ok { OnOk result (AreAdded limits size text.now self.old self.new) }
+        ensures fault { (fault : TraceError) → result ≡ Err (Fault fault) → steps_with limits size text.now self.old ≡ Err fault }
+        ensures err { OnErr result (self.new ≡ self.old) }
+    {
         let item = item_of_text(&mut self.bytes, text, limits, size)?;
         let Some(all) = steps_behind(self.steps, item) else {
             return Err(PushError::Fault(TraceError::Range));
@@ -144,6 +167,7 @@ impl Trace {
 
     /// What the step at a place does, counted from 0, or `None` behind the last one. Its bytes are those of [`Trace::bytes`]. This takes
     /// less time than [`Trace::step`], which copies them.
+    #[inline]
     pub fn kind(&self, place: usize) -> Option<StepKind>
         ensures some { IfSome result (λ kind. slice_get self.now place ≡ Some (with_bytes kind (bytes_in self.now place))) }
         ensures none { IfNone result (slice_get self.now place ≡ None) }
@@ -153,6 +177,7 @@ impl Trace {
     }
 
     /// The bytes that the step at a place writes or posts, where they lie: none where it does neither, or where no step is.
+    #[inline]
     pub fn bytes(&self, place: usize) -> &[u8]
         ensures { result.now ≡ bytes_in self.now place }
     {
