@@ -1,0 +1,13 @@
+pub mod ValueLemmas
+pub mod TextLemmas
+pub mod LineLemmas
+pub mod BlockLemmas
+pub mod LogLemmas
+pub mod FrontLemmas
+pub mod PolicyLemmas
+pub mod GuestLemmas
+pub mod FieldLemmas
+pub mod Digits
+pub mod UnitLemmas
+pub mod SampleLemmas
+pub mod KeyLemmas

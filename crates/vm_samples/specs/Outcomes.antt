@@ -1,0 +1,8 @@
+-- What is read, or why not.
+use Rattle.std.specs.Prelude.{Result, Ok, Err}
+
+-- the next step, where the first found a value
+infixl 10 ◌>>=◌
+abbrev pub ◌>>=◌ : {A B E : Type 0} → Result A E → (A → Result B E) → Result B E
+(Ok x) >>= next = next x
+(Err e) >>= next = Err e

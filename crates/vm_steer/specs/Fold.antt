@@ -1,0 +1,31 @@
+-- The samples of a host log, one after the other.
+use Rattle.std.specs.Prelude.{ℕ, ◌+◌, List, [], ◌∷◌, ◌++◌, Result, Ok, Err}
+use Rattle.vm_samples.specs.declared.sample.BadSample.{BadSample}
+use Rattle.vm_samples.specs.Policies.{PolicyView}
+use Rattle.vm_samples.specs.Samples.{DomainView}
+use Rattle.vm_steer.specs.Entries.{ToldView}
+use Rattle.vm_steer.specs.Steering.{SteeringView, begun, steered}
+use Rattle.vm_steer.specs.Text.{bad_text, text_of}
+
+-- after a sample; a bad one changes nothing
+abbrev pub after_sample : SteeringView → Result (List DomainView) BadSample → SteeringView
+after_sample s (Ok domains) = steered s domains
+after_sample s (Err bad) = s
+
+abbrev pub after_samples : SteeringView → List (Result (List DomainView) BadSample) → SteeringView
+after_samples s [] = s
+after_samples s (sample ∷ samples) = after_samples (after_sample s sample) samples
+
+-- what is written of the sample with a number
+abbrev pub text_in : (number : ℕ) → SteeringView → Result (List DomainView) BadSample → List ℕ
+text_in number s (Ok domains) = text_of number (steered s domains).last
+text_in number s (Err bad) = bad_text number bad
+
+-- what is written of samples that are numbered from here on
+abbrev pub texts_from : (number : ℕ) → SteeringView → List (Result (List DomainView) BadSample) → List ℕ
+texts_from number s [] = []
+texts_from number s (sample ∷ samples) = text_in number s sample ++ texts_from (number + 1) (after_sample s sample) samples
+
+-- what was told of the last good one of these samples
+abbrev pub last_told : PolicyView → List (Result (List DomainView) BadSample) → ToldView
+last_told policy samples = (after_samples (begun policy) samples).last
