@@ -1,5 +1,5 @@
 -- The step at a place of a trace, and its entry.
-use Rattle.std.proofs.Common.{◌≡◌, ℕ, zero, suc, ◌+◌, ◌-◌, ◌<◌, ◌≤◌, inl, inr, true, false, leb, List, [], ◌∷◌, ◌++◌, length, All, Some, None, slice_get, get_or, refl, ap, sym, subst, ◌∙◌, arith}
+use Rattle.std.proofs.Common.{◌≡◌, ℕ, zero, suc, ◌+◌, ◌-◌, ◌<◌, ◌≤◌, inl, inr, true, false, leb, List, [], ◌∷◌, length, Some, None, slice_get, get_or, refl, ap, sym, subst, ◌∙◌, arith}
 use Rattle.std.proofs.lemmas.Bool.{cases_lt, leb-true, leb-false}
 use Rattle.std.proofs.lemmas.List.Elements.{All-get_or}
 use Rattle.std.proofs.lemmas.List.Sorted.{IsPartitionedBy-leb}
@@ -9,7 +9,6 @@ use Rattle.vm_trace.specs.declared.entry.Entry.{Entry}
 use Rattle.vm_trace.specs.declared.entry.Item.{Item}
 use Rattle.vm_trace.specs.declared.entry.Item.TheVariants.{Read, Write, Touch, Free, Idle, Yield, Post, Actual}
 use Rattle.vm_trace.specs.declared.entry.Part.{Part}
-use Rattle.vm_trace.specs.declared.step.Action.{Action}
 use Rattle.vm_trace.specs.Entries.{count_of, action_at, page_of, end_of, steps_at, steps_of, total, ArePlaced, AreNumbered, IsTrace, IsPartAt}
 use Rattle.vm_trace.specs.Limits.{most_pages, IsStep}
 use Rattle.vm_trace.proofs.Kept.{length-steps_at, length-trace}

@@ -1,5 +1,5 @@
 -- What a trace keeps where bytes and entries come behind the others.
-use Rattle.std.proofs.Common.{◌≡◌, ℕ, ◌+◌, ◌<◌, ◌≤◌, List, [], ◌∷◌, ◌++◌, length, map, take, drop, All, Result, Ok, Err, OnErr, Option, Some, None, IfNone, refl, ap, sym, subst, ◌∙◌, arith}
+use Rattle.std.proofs.Common.{◌≡◌, ℕ, ◌+◌, ◌≤◌, List, [], ◌∷◌, ◌++◌, length, map, take, drop, All, Result, Ok, Err, OnErr, Option, Some, None, IfNone, refl, ap, sym, subst, ◌∙◌, arith}
 use Rattle.std.proofs.lemmas.List.{append_assoc, append-nil, length-append, length-drop, take-append-le, drop-append-le}
 use Rattle.std.proofs.lemmas.List.Elements.{All-head, All-tail, All-nil, All-cons, All-append, All-same}
 use Rattle.std.proofs.lemmas.List.FromFn.{length-map-range_with_len}
@@ -9,7 +9,7 @@ use Rattle.vm_trace.specs.declared.entry.Item.{Item}
 use Rattle.vm_trace.specs.declared.entry.Item.TheVariants.{Read, Write, Touch, Free, Idle, Yield, Post, Actual}
 use Rattle.vm_trace.specs.declared.step.Action.{Action}
 use Rattle.vm_trace.specs.declared.step.Action.TheVariants as action
-use Rattle.vm_trace.specs.Entries.{bytes_at, count_of, action_at, end_of, steps_at, steps_of, total, ArePlaced, AreNumbered, AreKept, IsTrace, Keeps}
+use Rattle.vm_trace.specs.Entries.{bytes_at, count_of, action_at, end_of, steps_at, steps_of, total, ArePlaced, AreKept, IsTrace, Keeps}
 use Rattle.vm_trace.specs.Limits.{IsStep}
 
 -- ---- bytes behind the others

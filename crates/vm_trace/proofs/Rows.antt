@@ -1,8 +1,8 @@
 -- The steps that a text stands for, as they are read, and their items.
-use Rattle.std.proofs.Common.{◌≡◌, ℕ, zero, suc, ◌+◌, ◌-◌, ◌<◌, ◌≤◌, inl, inr, Bool, true, false, nat_lt, nat_le, cond, List, [], ◌∷◌, ◌++◌, length, map, slice_get, All, Some, Result, Ok, Err, refl, ap, sym, subst, ◌∙◌, arith}
+use Rattle.std.proofs.Common.{◌≡◌, ℕ, zero, suc, ◌+◌, ◌-◌, ◌<◌, ◌≤◌, inl, inr, Bool, true, false, nat_lt, nat_le, cond, List, [], ◌∷◌, ◌++◌, length, map, slice_get, All, Result, Ok, Err, refl, ap, sym, subst, ◌∙◌, arith}
 use Rattle.std.proofs.lemmas.Bool.{and_parts, cases_lt, le-leb, lt-leb, le-ltb, ltb-true}
 use Rattle.std.proofs.lemmas.List.{append-nil}
-use Rattle.std.proofs.lemmas.List.Elements.{All-head, All-nil, All-cons, All-map, All-same}
+use Rattle.std.proofs.lemmas.List.Elements.{All-head, All-nil, All-cons, All-map}
 use Rattle.std.proofs.lemmas.List.Folds.{list_all_at, list_all-map}
 use Rattle.std.proofs.lemmas.List.FromFn.{length-range_with_len, get_or-range_with_len}
 use Rattle.std.proofs.lemmas.Option.{same_Some}
@@ -20,7 +20,7 @@ use Rattle.vm_trace.specs.declared.text_steps.Row.{Row}
 use Rattle.vm_trace.specs.declared.text_steps.TextSteps.{TextSteps}
 use Rattle.vm_trace.specs.declared.text_steps.TextSteps.TheVariants.{One, Touches, Frees}
 use Rattle.vm_trace.specs.Entering.{IsItemOf}
-use Rattle.vm_trace.specs.Entries.{action_at, bytes_of, count_of, end_of, steps_at, steps_of, IsTrace, Keeps}
+use Rattle.vm_trace.specs.Entries.{action_at, bytes_of, count_of, steps_at, steps_of, IsTrace, Keeps}
 use Rattle.vm_trace.specs.Limits.{most_pages, most_steps, IsStep, IsWithin}
 use Rattle.vm_trace.specs.Meaning.{step_of_words, steps_of_words, alone, step_within, steps_within}
 use Rattle.vm_trace.specs.Sized.{is_within, within_pages, steps_in, steps_with}

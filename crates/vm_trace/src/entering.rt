@@ -52,7 +52,8 @@ fn keep_pair(store: &mut Vec<u8>, high: u8, low: u8) -> Result<Option<u32>, Allo
 }
 
 // Puts the bytes that a text spells in hexadecimal digits behind the others, in one pass, and gives their place; `None` for another
-// text.
+// text. Inlined, so that the loop keeps the store's fields at hand.
+#[inline(always)]
 pub(crate) fn keep_pairs(store: &mut Vec<u8>, text: &[u8]) -> Result<Option<u32>, AllocError>
     ensures kept { IfOk result (λ found. IfSome found (KeepsHex text.now store.old.items store.new.items)) }
     ensures none { IfOk result (λ found. found ≡ None → LeavesHex text.now store.old.items store.new.items) }
@@ -76,6 +77,7 @@ pub(crate) fn keep_pairs(store: &mut Vec<u8>, text: &[u8]) -> Result<Option<u32>
 }
 
 // As `keep_pairs`. Most writes have one byte, for which no room is asked and no loop begun.
+#[inline(always)]
 pub(crate) fn keep_hex(store: &mut Vec<u8>, text: &[u8]) -> Result<Option<u32>, AllocError>
     ensures kept { IfOk result (λ found. IfSome found (KeepsHex text.now store.old.items store.new.items)) }
     ensures none { IfOk result (λ found. found ≡ None → LeavesHex text.now store.old.items store.new.items) }

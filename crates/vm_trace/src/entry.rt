@@ -126,19 +126,20 @@ pub(crate) fn action_at(bytes: &[u8], part: Part) -> Action
     }
 }
 
-// What a step does, whatever the bytes beside it.
-pub(crate) fn kind_of(part: Part) -> StepKind
-    requires { page_of part.item + part.before < 262144 }
-    ensures { (bytes : List ℕ) → action_at bytes part.item part.before ≡ with_bytes result (bytes_of (action_at bytes part.item part.before)) }
+// What a step does that has so many of its item's before it, whatever the bytes beside it.
+#[inline(always)]
+pub(crate) fn kind_of(item: &Item, before: u32) -> StepKind
+    requires { page_of item.now + before < 262144 }
+    ensures { (bytes : List ℕ) → action_at bytes item.now before ≡ with_bytes result (bytes_of (action_at bytes item.now before)) }
 {
-    match part.item {
+    match *item {
         Item::Read { page, offset, len } => StepKind::Read { page, offset, len },
         Item::Write { page, offset, .. } => StepKind::Write { page, offset },
         Item::Touch { page, .. } => StepKind::Touch {
-            page: page + part.before,
+            page: page + before,
         },
         Item::Free { page, .. } => StepKind::Free {
-            page: page + part.before,
+            page: page + before,
         },
         Item::Idle => StepKind::Idle,
         Item::Yield => StepKind::Yield,
@@ -149,11 +150,11 @@ pub(crate) fn kind_of(part: Part) -> StepKind
 
 // The bytes that each step of an item brings along, where they lie.
 #[inline(always)]
-pub(crate) fn bytes_of(bytes: &[u8], item: Item) -> &[u8]
-    requires within { end_of item ≤ length bytes.now }
-    ensures { (before : ℕ) → result.now ≡ bytes_of (action_at bytes.now item before) }
+pub(crate) fn bytes_of<'a>(bytes: &'a [u8], item: &Item) -> &'a [u8]
+    requires within { end_of item.now ≤ length bytes.now }
+    ensures { (before : ℕ) → result.now ≡ bytes_of (action_at bytes.now item.now before) }
 {
-    match item {
+    match *item {
         Item::Write { start, len, .. } => &bytes[start as usize..start as usize + len as usize],
         Item::Post { start, len, .. } => &bytes[start as usize..start as usize + len as usize],
         _ => &[],

@@ -49,7 +49,6 @@ fn counted_part_at(entries: &[Entry], steps: u32, place: usize) -> Option<Part>
 }
 
 // The step at a place. Where each entry is one step, its entry is at that place.
-#[inline(always)]
 pub(crate) fn part_at(entries: &[Entry], steps: u32, place: usize) -> Option<Part>
     requires { AreNumbered steps entries.now }
     ensures some { IfSome result (IsPartAt entries.now place) }
@@ -63,4 +62,16 @@ pub(crate) fn part_at(entries: &[Entry], steps: u32, place: usize) -> Option<Par
         item: entry.item,
         before: 0,
     })
+}
+
+// The item of the step at a place, where each entry is one step.
+#[inline(always)]
+pub(crate) fn item_at(entries: &[Entry], steps: u32, place: usize) -> Option<&Item>
+    requires numbered { AreNumbered steps entries.now }
+    requires single { length entries.now ≡ steps }
+    ensures some { IfSome result (λ item. IsPartAt entries.now place (record { item = item.now; before = 0 })) }
+    ensures none { IfNone result (steps ≤ place) }
+{
+    let entry = entries.get(place)?;
+    Some(&entry.item)
 }

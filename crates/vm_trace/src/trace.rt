@@ -11,7 +11,7 @@ use crate::entry::{Entry, action_at, bytes_of, kind_of};
 use crate::error::{PushError, TraceError};
 use crate::kind::StepKind;
 use crate::limits::StepLimits;
-use crate::places::{one_more, part_at, steps_behind};
+use crate::places::{item_at, one_more, part_at, steps_behind};
 use crate::step::Step;
 use std::alloc::{AllocError, Global};
 use std::marker::Model;
@@ -165,24 +165,53 @@ impl Trace {
         Some(Step::new(action_at(self.bytes.as_slice(), part)))
     }
 
-    /// What the step at a place does, counted from 0, or `None` behind the last one. Its bytes are those of [`Trace::bytes`]. This takes
-    /// less time than [`Trace::step`], which copies them.
-    #[inline]
-    pub fn kind(&self, place: usize) -> Option<StepKind>
+    // As `kind`, where entries count more than one.
+    #[cold]
+    #[inline(never)]
+    fn counted_kind(&self, place: usize) -> Option<StepKind>
         ensures some { IfSome result (λ kind. slice_get self.now place ≡ Some (with_bytes kind (bytes_in self.now place))) }
         ensures none { IfNone result (slice_get self.now place ≡ None) }
     {
         let part = part_at(self.entries.as_slice(), self.steps, place)?;
-        Some(kind_of(part))
+        Some(kind_of(&part.item, part.before))
     }
 
-    /// The bytes that the step at a place writes or posts, where they lie: none where it does neither, or where no step is.
-    #[inline]
-    pub fn bytes(&self, place: usize) -> &[u8]
+    /// What the step at a place does, counted from 0, or `None` behind the last one. Its bytes are those of [`Trace::bytes`]. This takes
+    /// less time than [`Trace::step`], which copies them.
+    #[inline(always)]
+    pub fn kind(&self, place: usize) -> Option<StepKind>
+        ensures some { IfSome result (λ kind. slice_get self.now place ≡ Some (with_bytes kind (bytes_in self.now place))) }
+        ensures none { IfNone result (slice_get self.now place ≡ None) }
+    {
+        if self.entries.len() != self.steps as usize {
+            return self.counted_kind(place);
+        }
+        let item = item_at(self.entries.as_slice(), self.steps, place)?;
+        Some(kind_of(item, 0))
+    }
+
+    // As `bytes`, where entries count more than one.
+    #[cold]
+    #[inline(never)]
+    fn counted_bytes(&self, place: usize) -> &[u8]
         ensures { result.now ≡ bytes_in self.now place }
     {
         match part_at(self.entries.as_slice(), self.steps, place) {
-            Some(part) => bytes_of(self.bytes.as_slice(), part.item),
+            Some(part) => bytes_of(self.bytes.as_slice(), &part.item),
+            None => &[],
+        }
+    }
+
+    /// The bytes that the step at a place writes or posts, where they lie: none where it does neither, or where no step is.
+    #[inline(always)]
+    pub fn bytes(&self, place: usize) -> &[u8]
+        ensures { result.now ≡ bytes_in self.now place }
+    {
+        if self.entries.len() != self.steps as usize {
+            return self.counted_bytes(place);
+        }
+        match item_at(self.entries.as_slice(), self.steps, place) {
+            Some(item) => bytes_of(self.bytes.as_slice(), item),
             None => &[],
         }
     }

@@ -1,4 +1,4 @@
-use Rattle.std.proofs.Common.{arith, ap, sym, ◌∙◌, ◌≡◌, ◌<◌, ◌≤◌, ◌+◌, ◌*◌, ◌/◌, ◌++◌, ◌∷◌, [], length, take, drop}
+use Rattle.std.proofs.Common.{arith, ap, sym, ◌∙◌, ◌≡◌, ◌<◌, ◌+◌, ◌*◌, ◌/◌, ◌++◌, ◌∷◌, [], length, take, drop}
 use Rattle.std.proofs.lemmas.List.{take_more_set, length-set, take_all, take-append-drop}
 use Rattle.vm_trace.specs.Words.{hex_pairs}
 use Rattle.vm_trace.proofs.Hex.{pairs_more, even_from_hex}

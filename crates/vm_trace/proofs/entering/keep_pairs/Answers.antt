@@ -3,7 +3,6 @@ use Rattle.std.proofs.lemmas.List.{append_assoc, append-nil, take_all, take-appe
 use Rattle.std.proofs.lemmas.List.Folds.{list_all_at}
 use Rattle.std.specs.Char.{digit_value}
 use Rattle.std.specs.List.{list_all}
-use Rattle.vm_trace.specs.Entering.{KeepsHex}
 use Rattle.vm_trace.specs.Words.{hex_pairs, is_hex, pair_of}
 use Rattle.vm_trace.proofs.Hex.{pair_from}
 use Rattle.vm_trace.proofs.entering.keep_pairs.Goals as goal

@@ -8,9 +8,9 @@ use Rattle.vm_trace.proofs.trace.Trace.bytes.Goals as goal
 pub returns-in-Some : goal.returns-in-Some
 returns-in-Some c =
     let entries = c.self.inside.entries.items in
-    c.bytes_of.ensures c.in-Some.part.before
+    c.bytes_of.ensures 0
     ∙ ap (λ found. bytes_of (unwrap_or found Idle))
-    (sym (read_at c.self.inside.bytes.items c.as_slice-in-Some.result.now entries c.as_slice.result.now c.self.inside.steps c.args.place c.in-Some.part c.as_slice-in-Some.ensures.value c.as_slice.ensures.value c.in-Some.ensures.some c.self.invariant).step)
+    (sym (read_at c.self.inside.bytes.items c.as_slice-in-Some.result.now entries c.as_slice.result.now c.self.inside.steps c.args.place (record { item = c.in-Some.item.now; before = 0 }) c.as_slice-in-Some.ensures.value c.as_slice.ensures.value c.in-Some.ensures.some c.self.invariant).step)
     ∙ ap (λ steps. bytes_in steps c.args.place) (ap (λ bytes. steps_of bytes entries) c.as_slice-in-Some.ensures.value ∙ c.self.view_is)
 
 pub returns-in-None : goal.returns-in-None

@@ -1,4 +1,4 @@
-use Rattle.std.proofs.Common.{◌++◌, Err, ap, refl, ◌∙◌}
+use Rattle.std.proofs.Common.{◌++◌, ap, refl, ◌∙◌}
 use Rattle.vm_trace.specs.Entries.{action_at, bytes_of, steps_at, steps_of}
 use Rattle.vm_trace.proofs.Kept.{trace_after, trace_more, steps_after, steps_more}
 use Rattle.vm_trace.proofs.Rows.{trace_full, trace_few}
