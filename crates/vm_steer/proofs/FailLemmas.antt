@@ -3,6 +3,7 @@ use Rattle.std.proofs.Common.{◌≡◌, ◌∙◌, ◌⊎◌, inl, inr, ℕ, Bo
 use Rattle.std.proofs.lemmas.Bool.{false≢true}
 use Rattle.vm_samples.specs.declared.host_log.LogError.{LogError}
 use Rattle.vm_samples.specs.declared.host_log.LogError.TheVariants as log
+use Rattle.vm_steer.specs.declared.form.Form.{Form}
 use Rattle.vm_steer.specs.declared.steer_error.SteerError.{SteerError}
 use Rattle.vm_steer.specs.declared.steer_error.SteerError.TheVariants.{Policy, Read, TooLong, Write, Memory}
 use Rattle.vm_steer.specs.Blocks.{AreTakenOf, FailsAt, FailsToTake, IsLongAt, WritesFirst, WritesSome}
@@ -17,25 +18,29 @@ passed_on (Ok x) error P holds same = absurd same
 passed_on (Err e) error P holds same = subst P (sym same) holds
 
 -- a block that isn't taken ends the taking of all
-pub fails_at : (count : ℕ) (s now : SteeringView) (old mid new first rest : Option (List ℕ)) (read_failed write_failed : Bool) (error : SteerError)
-    → AreTakenOf count s old mid now first rest → FailsAt count now rest mid new read_failed write_failed error
-    → FailsToTake s first old new read_failed write_failed error
-fails_at count s now old mid new first rest read_failed write_failed (Policy fault) taken fails = absurd fails
-fails_at count s now old mid new first rest read_failed write_failed Read taken fails =
-    (subst (λ (bytes : Option (List ℕ)). WritesSome s first old bytes) (sym fails.0) (taken_some count s now old mid first rest taken), fails.1)
-fails_at count s now old mid new first rest read_failed write_failed TooLong taken fails =
-    subst (λ (bytes : Option (List ℕ)). IfSome first (λ all. (n : ℕ) × IsLongAt n all × WritesFirst s first old bytes n all)) (sym fails.0)
-    (taken_long count s now old mid first rest taken fails.1)
-fails_at count s now old mid new first rest read_failed write_failed Write taken fails = (taken_front count s now old mid new first rest taken fails.0, fails.1)
-fails_at count s now old mid new first rest read_failed write_failed Memory taken fails =
-    subst (λ (bytes : Option (List ℕ)). WritesSome s first old bytes) (sym fails) (taken_some count s now old mid first rest taken)
+pub fails_at : (form : Form) (count : ℕ) (s now : SteeringView) (old mid new first rest : Option (List ℕ)) (read_failed write_failed : Bool) (error : SteerError)
+    → AreTakenOf form count s old mid now first rest → FailsAt form count now rest mid new read_failed write_failed error
+    → FailsToTake form s first old new read_failed write_failed error
+fails_at form count s now old mid new first rest read_failed write_failed (Policy fault) taken fails = absurd fails
+fails_at form count s now old mid new first rest read_failed write_failed Read taken fails =
+    (subst (λ (bytes : Option (List ℕ)). WritesSome form s first old bytes) (sym fails.0) (taken_some form count s now old mid first rest taken), fails.1)
+fails_at form count s now old mid new first rest read_failed write_failed TooLong taken fails =
+    subst (λ (bytes : Option (List ℕ)). IfSome first (λ all. (n : ℕ) × IsLongAt n all × WritesFirst form s first old bytes n all)) (sym fails.0)
+    (taken_long form count s now old mid first rest taken fails.1)
+fails_at form count s now old mid new first rest read_failed write_failed Write taken fails = (taken_front form count s now old mid new first rest taken fails.0, fails.1)
+fails_at form count s now old mid new first rest read_failed write_failed Memory taken fails =
+    subst (λ (bytes : Option (List ℕ)). WritesSome form s first old bytes) (sym fails) (taken_some form count s now old mid first rest taken)
 
 -- ---- a reader or a writer that fails
 
 not_newly : (old new : Bool) → new ≡ old → NewlyFailed old new → ⊥
 not_newly old new same newly = false≢true (sym newly.0 ∙ sym same ∙ newly.1)
 
--- what wasn't used has not failed
+-- what stays as it was has not failed
+pub not_failed : {P : Type 0} (old new : Bool) → new ≡ old → NewlyFailed old new → P
+not_failed old new same newly = absurd (not_newly old new same newly)
+
+-- .. as what wasn't used
 pub unused : {P : Type 0} (bool : Bool) → NewlyFailed bool bool → P
 unused bool newly = absurd (not_newly bool bool refl newly)
 

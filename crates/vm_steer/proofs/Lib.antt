@@ -11,6 +11,7 @@ pub mod PromiseLemmas
 pub mod SpanLemmas
 pub mod BoundLemmas
 pub mod CommentLemmas
+pub mod FieldLemmas
 mod BlockLemmas
 mod FailLemmas
 mod WholeLemmas

@@ -1,5 +1,6 @@
 -- What is true of every sample: of what is decided for it after any others.
-use Rattle.std.specs.Prelude.{ℕ, ◌≡◌, ◌+◌, ◌-◌, ◌<◌, ◌≤◌, ◌⊎◌, ◌==◌, ◌&&◌, ⊤, Bool, true, false, List, [], ◌∷◌, Some, None, Result, Ok, Err, IfSome, max}
+use Rattle.std.specs.Prelude.{ℕ, ◌≡◌, ◌+◌, ◌-◌, ◌<◌, ◌≤◌, ◌⊎◌, ◌==◌, ◌&&◌, ⊤, Bool, true, false, List, [], ◌∷◌, Some, None, Result, Ok, Err, IfSome, max, not}
+use Rattle.std.specs.List.{list_all}
 use Rattle.vm_plan.specs.Moves.{EachMove}
 use Rattle.vm_plan.specs.Rebalancing.{rows_given}
 use Rattle.vm_plan.specs.Revocation.{rows_after}
@@ -116,3 +117,16 @@ abbrev pub are_comments : (starts : Bool) → List ℕ → Bool
 are_comments starts [] = true
 are_comments true (byte ∷ bytes) = byte == 35 && are_comments false bytes
 are_comments false (byte ∷ bytes) = are_comments (byte == 10) bytes
+
+-- ---- fields of the table
+
+-- a byte that a field may have without quotes (RFC 4180): no comma, no quote, no CR and no LF
+abbrev pub is_bare : ℕ → Bool
+is_bare byte = not (byte == 44) && (not (byte == 34) && (not (byte == 13) && not (byte == 10)))
+
+abbrev pub IsBare : List ℕ → Type 0
+IsBare field = list_all is_bare field ≡ true
+
+abbrev pub AreBare : List (List ℕ) → Type 0
+AreBare [] = ⊤
+AreBare (field ∷ fields) = IsBare field × AreBare fields

@@ -12,6 +12,7 @@ pub mod Entries
 pub mod Told
 pub mod Sights
 pub mod Text
+pub mod Table
 pub mod Steering
 pub mod Fold
 pub mod Streams

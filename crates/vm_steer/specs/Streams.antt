@@ -1,5 +1,5 @@
 -- What is written of a host log, a stream of bytes.
-use Rattle.std.specs.Prelude.{◌≡◌, ◌⊎◌, ℕ, ◌≤◌, ◌^◌, ◌-◌, Bool, true, List, [], ◌∷◌, ◌++◌, drop, is_ok, length, map, nat_lt, take, IfSome, Option, Some, None, Result, Ok, Err}
+use Rattle.std.specs.Prelude.{◌≡◌, ◌⊎◌, ℕ, zero, suc, ◌≤◌, ◌^◌, Bool, true, List, [], ◌∷◌, ◌++◌, drop, is_ok, length, map, nat_lt, take, IfSome, Option, Some, None, Result, Ok, Err}
 use Rattle.std.specs.Io.KnownBytes.{Appends, Keeps}
 use Rattle.std.specs.List.{position_from}
 use Rattle.vm_samples.specs.declared.fault.PolicyError.{PolicyError}
@@ -14,9 +14,10 @@ use Rattle.vm_samples.specs.Policies.{PolicyView}
 use Rattle.vm_samples.specs.PolicyOf.{policy_of}
 use Rattle.vm_samples.specs.SampleOf.{sample_of}
 use Rattle.vm_samples.specs.Samples.{DomainView}
+use Rattle.vm_steer.specs.declared.form.Form.{Form}
 use Rattle.vm_steer.specs.declared.steer_error.SteerError.{SteerError}
 use Rattle.vm_steer.specs.declared.steer_error.SteerError.TheVariants.{Policy, Read, TooLong, Write, Memory}
-use Rattle.vm_steer.specs.Fold.{texts_from}
+use Rattle.vm_steer.specs.Fold.{header_in, texts_from}
 use Rattle.vm_steer.specs.Steering.{begun}
 use Rattle.vm_streams.specs.Streams.{AppendsFront}
 
@@ -34,18 +35,23 @@ samples_of blocks = map sample_of blocks
 abbrev pub samples_in : List ℕ → List (Result (List DomainView) BadSample)
 samples_in bytes = samples_of (drop 1 (blocks_of bytes))
 
--- what is written of samples
-abbrev pub output_by : Result PolicyView PolicyFault → List (Result (List DomainView) BadSample) → List ℕ
-output_by (Err fault) samples = []
-output_by (Ok policy) samples = texts_from 0 (begun policy) samples
+-- what is written of samples: nothing where the policy is refused
+abbrev pub output_by : Form → Result PolicyView PolicyFault → List (Result (List DomainView) BadSample) → List ℕ
+output_by form (Err fault) samples = []
+output_by form (Ok policy) samples = header_in form ++ texts_from form 0 (begun policy) samples
 
 -- what is written of a log
-abbrev pub output_in : List ℕ → List ℕ
-output_in bytes = output_by (policy_in bytes) (samples_in bytes)
+abbrev pub output_in : Form → List ℕ → List ℕ
+output_in form bytes = output_by form (policy_in bytes) (samples_in bytes)
 
 -- what is written of its first samples
-abbrev pub output_until : (count : ℕ) → List ℕ → List ℕ
-output_until count bytes = output_by (policy_in bytes) (take count (samples_in bytes))
+abbrev pub output_until : Form → (count : ℕ) → List ℕ → List ℕ
+output_until form count bytes = output_by form (policy_in bytes) (take count (samples_in bytes))
+
+-- what is written in front of a part, from 0: in front of the policy nothing
+abbrev pub output_before : Form → (part : ℕ) → List ℕ → List ℕ
+output_before form zero bytes = []
+output_before form (suc count) bytes = output_until form count bytes
 
 -- ---- its length
 
@@ -60,32 +66,25 @@ is_long part = nat_lt 16777216 (length part)
 abbrev pub long_in : List ℕ → Option ℕ
 long_in bytes = position_from is_long 0 (parts_of bytes)
 
--- a part is too long, and so many samples stand in front of it
-abbrev pub IsLongPartBehind : (count : ℕ) → List ℕ → Type 0
-IsLongPartBehind count bytes = (part : ℕ) × (long_in bytes ≡ Some part) × (count ≡ part - 1)
-
--- there are more samples than numbers for them, so many
-abbrev pub AreMoreThan : (count : ℕ) → List ℕ → Type 0
-AreMoreThan count bytes = (2 ^ 64 ≤ length (blocks_of bytes)) × (count ≡ 2 ^ 64 - 1)
-
-abbrev pub IsLongBehind : (count : ℕ) → List ℕ → Type 0
-IsLongBehind count bytes = IsLongPartBehind count bytes ⊎ AreMoreThan count bytes
+-- a part is too long, or the numbers of samples end in front of it
+abbrev pub IsLongPart : (part : ℕ) → List ℕ → Type 0
+IsLongPart part bytes = (long_in bytes ≡ Some part) ⊎ ((2 ^ 64 ≤ length (blocks_of bytes)) × (part ≡ 2 ^ 64))
 
 -- ---- what comes of it: of the source and the sink it names the bytes before and after, where they are known
 
-module _ (read_old written_old written_new : Option (List ℕ)) where
+module _ (form : Form) (read_old written_old written_new : Option (List ℕ)) where
   -- the policy isn't refused, no part is too long, and the output was written and nothing else
   abbrev pub Steers : Type 0
   Steers = IfSome read_old (λ bytes.
-      (is_ok (policy_in bytes) ≡ true) × (long_in bytes ≡ None) × Appends written_old written_new (output_in bytes))
+      (is_ok (policy_in bytes) ≡ true) × (long_in bytes ≡ None) × Appends written_old written_new (output_in form bytes))
 
-  -- the texts of the first so many samples were written, and nothing else
-  abbrev pub WritesUntil : (count : ℕ) → List ℕ → Type 0
-  WritesUntil count bytes = Appends written_old written_new (output_until count bytes)
+  -- what stands in front of a part was written, and nothing else: of the policy nothing, else the header and the texts of whole samples
+  abbrev pub WritesBefore : (part : ℕ) → List ℕ → Type 0
+  WritesBefore part bytes = Appends written_old written_new (output_before form part bytes)
 
-  -- .. of some number of samples
+  -- .. of some part
   abbrev pub WritesWhole : Type 0
-  WritesWhole = IfSome read_old (λ bytes. (count : ℕ) × WritesUntil count bytes)
+  WritesWhole = IfSome read_old (λ bytes. (part : ℕ) × WritesBefore part bytes)
 
   -- the cause of each error but `Memory`, which has none, and what was written by then
   abbrev pub Fails : (read_failed write_failed : Bool) → SteerError → Type 0
@@ -93,9 +92,9 @@ module _ (read_old written_old written_new : Option (List ℕ)) where
       Keeps written_old written_new × IfSome read_old (λ bytes. policy_in bytes ≡ Err fault)
   Fails read_failed write_failed Read = WritesWhole × (read_failed ≡ true)
   Fails read_failed write_failed TooLong =
-      IfSome read_old (λ bytes. (count : ℕ) × IsLongBehind count bytes × WritesUntil count bytes)
+      IfSome read_old (λ bytes. (part : ℕ) × IsLongPart part bytes × WritesBefore part bytes)
   Fails read_failed write_failed Write =
-      IfSome read_old (λ bytes. AppendsFront written_old written_new (output_in bytes)) × (write_failed ≡ true)
+      IfSome read_old (λ bytes. AppendsFront written_old written_new (output_in form bytes)) × (write_failed ≡ true)
   Fails read_failed write_failed Memory = WritesWhole
 
 -- ---- errors

@@ -3,16 +3,16 @@
 //! [`Steering`] takes what `virsh domstats` tells of a host's domains at one moment, a [`vm_samples::Sample`], and finds what their balloons
 //! are to be ordered. What it tells of a sample is plain data, [`Told`], with the numbers of each domain; what is written of it,
 //! [`text_of`], has these as comments and the orders as `setmem` lines, which `virsh` takes. A bad sample changes nothing, and
-//! [`bad_text`] says why it is bad.
+//! [`bad_text`] says why it is bad. [`records_of`] has the same decisions as lines of a table.
 //!
-//! [`steer`] does this for a whole host log, from a source to a sink. What it writes is in `specs/Streams`, over the samples of
-//! `specs/Fold`.
+//! [`steer`] does this for a whole host log, from a source to a sink, in one of both forms ([`Form`]). What it writes is in
+//! `specs/Streams`, over the samples of `specs/Fold`.
 //!
 //! The rules of price, state, revocation, grants and rebalancing are those of `vm_plan` (Waldspurger, "Memory Resource Management in VMware
 //! ESX Server", OSDI 2002, sections 5.1, 5.2 and 6.3), over a row for each domain that is steered. What the numbers of a row are on a real
 //! host is in `specs/Look`, what is decided in `specs/Deciding`, what is told of a sample after the one before in `specs/Told`, and the
-//! lines in `specs/Text`. What is true of every policy and every list of samples (`specs/Fold`) are laws: [`law_bounds`],
-//! [`law_promise`], [`law_fairness`] and [`law_bad_samples`].
+//! lines in `specs/Text` and `specs/Table`. What is true of every policy and every list of samples (`specs/Fold`) are laws: [`law_bounds`],
+//! [`law_promise`], [`law_fairness`], [`law_bad_samples`] and [`law_records`].
 //!
 //! The numbers of a sample take a few passes over its domains; names are sorted and looked up by halves. An entry of a list of decisions
 //! costs a few steps, and where they change hands a logarithm of the number of domains.
@@ -21,6 +21,7 @@
 mod balloon;
 mod decide;
 mod fate;
+mod form;
 mod keys;
 mod last;
 mod law;
@@ -40,16 +41,19 @@ mod sight;
 mod steer_error;
 mod steering;
 mod stream;
+mod table;
 mod text;
 mod told;
 mod why;
 
 pub use fate::{Fate, LeftDomain, SteeredDomain};
-pub use law::{law_bad_samples, law_bounds, law_fairness, law_promise};
+pub use form::Form;
+pub use law::{law_bad_samples, law_bounds, law_fairness, law_promise, law_records};
 pub use remembered::Remembered;
 pub use steer_error::SteerError;
 pub use steering::Steering;
 pub use stream::steer;
+pub use table::records_of;
 pub use text::{bad_text, text_of};
 pub use told::{Entry, Told};
 pub use why::Why;

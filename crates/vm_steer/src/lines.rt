@@ -26,7 +26,7 @@ pub(crate) enum Part {
     Guests,
 }
 
-fn push_number(text: &mut Vec<u8>, number: u64) -> Result<(), AllocError>
+pub(crate) fn push_number(text: &mut Vec<u8>, number: u64) -> Result<(), AllocError>
     ensures { OnOk result (text.new.items ≡ text.old.items ++ decimal number) }
 {
     let mut buffer = Buffer::new();
@@ -43,7 +43,7 @@ fn push_ending(text: &mut Vec<u8>, number: u64) -> Result<(), AllocError>
 }
 
 // A name, where it is a guest's.
-fn push_name(text: &mut Vec<u8>, name: &[u8]) -> Result<(), AllocError>
+pub(crate) fn push_name(text: &mut Vec<u8>, name: &[u8]) -> Result<(), AllocError>
     ensures { OnOk result (text.new.items ≡ text.old.items ++ printed name.now) }
 {
     if is_name(name) {
