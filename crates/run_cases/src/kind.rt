@@ -20,11 +20,12 @@ pub(crate) enum Kind {
     Vmsweep,
     VmsweepForms,
     Vmtrace,
+    Vmsteer,
 }
 
 impl Kind {
     /// All of them, in the order in which they are tried.
-    pub(crate) const ALL: [Kind; 10] = [
+    pub(crate) const ALL: [Kind; 11] = [
         Kind::Reports,
         Kind::Series,
         Kind::Charts,
@@ -35,6 +36,7 @@ impl Kind {
         Kind::Vmsweep,
         Kind::VmsweepForms,
         Kind::Vmtrace,
+        Kind::Vmsteer,
     ];
 
     /// The name of its file, which is `NAME.cases`.
@@ -50,6 +52,7 @@ impl Kind {
             Kind::Vmsweep => "vmsweep",
             Kind::VmsweepForms => "vmsweep-forms",
             Kind::Vmtrace => "vmtrace",
+            Kind::Vmsteer => "vmsteer",
         }
     }
 
@@ -70,7 +73,8 @@ impl Kind {
             | Kind::Vmseries
             | Kind::Vmsweep
             | Kind::VmsweepForms
-            | Kind::Vmtrace => ends::try_block(rt, block, tally),
+            | Kind::Vmtrace
+            | Kind::Vmsteer => ends::try_block(rt, block, tally),
         }
     }
 

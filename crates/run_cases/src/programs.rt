@@ -1,8 +1,8 @@
-// The four programs, as calls.
+// The programs, as calls.
 use crate::streams::{Given, Narrow};
 use crate::system::FakeSystem;
 use std::thread::Threads;
-use vm_programs::{vmmem, vmseries, vmsweep, vmtrace};
+use vm_programs::{vmmem, vmseries, vmsteer, vmsweep, vmtrace};
 
 /// What a program ended with, and what it said and wrote.
 #[derive(Drop)]
@@ -14,7 +14,7 @@ pub(crate) struct Ended {
     pub(crate) left: usize,
 }
 
-/// Runs the program that the first word names, if it is one of the four.
+/// Runs the program that the first word names, if it is one of them.
 pub(crate) fn end<RT: AllocGlobal + Threads + Sync>(
     rt: &RT,
     words: &[&str],
@@ -26,6 +26,7 @@ pub(crate) fn end<RT: AllocGlobal + Threads + Sync>(
     let status = match *program {
         "vmmem" => vmmem::status(rt, &system, &mut reader, &mut writer),
         "vmseries" => vmseries::status(rt, &system, &mut reader, &mut writer),
+        "vmsteer" => vmsteer::status(&system, &mut reader, &mut writer),
         "vmsweep" => vmsweep::status(rt, &system, &mut reader, &mut writer),
         "vmtrace" => vmtrace::status(&system, &mut reader, &mut writer),
         _ => return None,

@@ -2,5 +2,6 @@ pub mod Words
 pub mod runs
 pub mod vmmem
 pub mod vmseries
+pub mod vmsteer
 pub mod vmsweep
 pub mod vmtrace

@@ -8,5 +8,6 @@
 pub mod runs;
 pub mod vmmem;
 pub mod vmseries;
+pub mod vmsteer;
 pub mod vmsweep;
 pub mod vmtrace;

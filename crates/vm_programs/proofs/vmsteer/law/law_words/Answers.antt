@@ -1,0 +1,45 @@
+use Rattle.std.proofs.Common.{refl, true≢false}
+use Rattle.clap.proofs.OnLiterals.{clap_on_literals}
+use Rattle.vm_words.specs.Words.{AreTaken, asked, command_line, flag_option, has_flag, text_of, value_option}
+use Rattle.vm_programs.proofs.lemmas.words.{has-fault}
+use Rattle.vm_programs.proofs.vmsteer.law.law_words.Goals as goal
+
+pub returns-clause-none : goal.returns-clause-none
+unfolding clap_on_literals AreTaken asked command_line flag_option has_flag text_of value_option
+returns-clause-none c = record { taken = record { faultless = refl; apart = refl; fit = refl }; asked = refl }
+
+pub returns-clause-csv : goal.returns-clause-csv
+unfolding clap_on_literals AreTaken asked command_line flag_option has_flag text_of value_option
+returns-clause-csv c = record { taken = record { faultless = refl; apart = refl; fit = refl }; asked = refl }
+
+pub returns-clause-svg : goal.returns-clause-svg
+unfolding clap_on_literals AreTaken asked command_line flag_option has_flag text_of value_option
+returns-clause-svg c = record { taken = record { faultless = refl; apart = refl; fit = refl }; asked = refl }
+
+pub returns-clause-both : goal.returns-clause-both
+unfolding clap_on_literals AreTaken asked command_line flag_option has_flag text_of value_option
+returns-clause-both c = λ taken. absurd (true≢false taken.apart)
+
+pub returns-clause-both_ways : goal.returns-clause-both_ways
+unfolding clap_on_literals AreTaken asked command_line flag_option has_flag text_of value_option
+returns-clause-both_ways c = λ taken. absurd (true≢false taken.apart)
+
+pub returns-clause-twice : goal.returns-clause-twice
+unfolding clap_on_literals AreTaken asked command_line flag_option has_flag text_of value_option
+returns-clause-twice c = λ taken. has-fault _ _ taken.faultless
+
+pub returns-clause-value : goal.returns-clause-value
+unfolding clap_on_literals AreTaken asked command_line flag_option has_flag text_of value_option
+returns-clause-value c = λ taken. has-fault _ _ taken.faultless
+
+pub returns-clause-other : goal.returns-clause-other
+unfolding clap_on_literals AreTaken asked command_line flag_option has_flag text_of value_option
+returns-clause-other c = λ taken. has-fault _ _ taken.faultless
+
+pub returns-clause-stray : goal.returns-clause-stray
+unfolding clap_on_literals AreTaken asked command_line flag_option has_flag text_of value_option
+returns-clause-stray c = λ taken. has-fault _ _ taken.faultless
+
+pub returns-clause-help : goal.returns-clause-help
+unfolding clap_on_literals AreTaken asked command_line flag_option has_flag text_of value_option
+returns-clause-help c = λ taken. has-fault _ _ taken.faultless

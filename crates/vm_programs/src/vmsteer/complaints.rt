@@ -1,0 +1,18 @@
+//! What is said on standard error of a log that is not steered by to its end.
+ghost use Rattle.std.specs.Prelude.{◌≡◌};
+ghost use Rattle.vm_programs.specs.vmsteer.Statuses.{status_of};
+
+use super::line::LINE;
+use vm_steer::SteerError;
+
+// Says why, and gives the status to end with. A log that is too long is one that can't be read.
+pub(crate) fn complain(system: &impl Eprint, error: SteerError) -> u8
+    ensures { result ≡ status_of error }
+{
+    match error {
+        SteerError::Policy(fault) => LINE.refuse(system, fault),
+        SteerError::Read | SteerError::TooLong => LINE.read_failed(system),
+        SteerError::Write => LINE.write_failed(system),
+        SteerError::Memory => LINE.no_memory(system),
+    }
+}
