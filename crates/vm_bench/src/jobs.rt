@@ -8,6 +8,7 @@ use crate::import::import;
 use crate::months::months;
 use crate::policy::policy;
 use crate::series::series;
+use crate::steer::steer;
 use crate::steps::steps;
 use crate::sweep::sweep;
 use std::alloc::Global;
@@ -27,10 +28,11 @@ pub enum Job {
     Sweep,
     Import,
     Steps,
+    Steer,
 }
 
 /// All jobs.
-pub const JOBS: [Job; 10] = [
+pub const JOBS: [Job; 11] = [
     Job::Day,
     Job::Months,
     Job::Fleet,
@@ -41,6 +43,7 @@ pub const JOBS: [Job; 10] = [
     Job::Sweep,
     Job::Import,
     Job::Steps,
+    Job::Steer,
 ];
 
 impl Job {
@@ -57,14 +60,19 @@ impl Job {
             Job::Sweep => "sweep",
             Job::Import => "import",
             Job::Steps => "steps",
+            Job::Steer => "steer",
         }
     }
 
     /// Whether the word `all` stands for it too. It does not for [`Job::Series`], since `policy` makes the same calls, not for
     /// [`Job::Sweep`] and [`Job::Import`], since the stored runs of `vmsweep` and `vmtrace` show what they make, and not for
-    /// [`Job::Steps`], since its text is of version 3 and those of `all` are of version 2.
+    /// [`Job::Steps`], since its text is of version 3 and those of `all` are of version 2, and not for [`Job::Steer`], since the
+    /// stored run of `vmsteer` shows what it makes.
     pub fn is_in_all(self) -> bool {
-        !matches!(self, Job::Series | Job::Sweep | Job::Import | Job::Steps)
+        !matches!(
+            self,
+            Job::Series | Job::Sweep | Job::Import | Job::Steps | Job::Steer
+        )
     }
 
     /// Does it on inputs of this seed, and gives the digest of its results. `part` is how many times smaller the inputs are.
@@ -87,6 +95,7 @@ impl Job {
             Job::Sweep => sweep(rt, alloc, seed, part, &mut digest)?,
             Job::Import => import(alloc, seed, part, &mut digest)?,
             Job::Steps => steps(rt, alloc, seed, part, &mut digest)?,
+            Job::Steer => steer(alloc, seed, part, &mut digest)?,
         }
         Ok(digest)
     }

@@ -1,9 +1,10 @@
 //! Does jobs that users of this software wait for, on inputs of its own making, and prints a digest of all their results:
 //! `vm_bench JOB SEED [PART]`.
 //!
-//! JOB is `day`, `months`, `fleet`, `policy`, `drivers`, `awkward`, or `all` of them, or `series`, `sweep`, `import` or `steps`,
-//! which `all` leaves out: `policy` makes the same calls as `series`, the stored runs of `vmsweep` and `vmtrace` show the table
-//! of a sweep and the guest of a log, and the text of `steps` is of version 3, those of `all` of version 2. Each SEED gives other
+//! JOB is `day`, `months`, `fleet`, `policy`, `drivers`, `awkward`, or `all` of them, or `series`, `sweep`, `import`, `steps` or
+//! `steer`, which `all` leaves out: `policy` makes the same calls as `series`, the stored runs of `vmsweep`, `vmtrace` and `vmsteer`
+//! show the table of a sweep, the guest of a log and the orders to a host, and the text of `steps` is of version 3, those of `all` of
+//! version 2. Each SEED gives other
 //! inputs of the same kind and size, and PART makes them so many times smaller. A line says the job, how many bytes its results
 //! have, and their digest.
 #![tactic(auto)]
@@ -13,6 +14,7 @@ mod day;
 mod digest;
 mod drivers;
 mod fleet;
+mod host_log;
 mod import;
 mod jobs;
 mod months;
@@ -21,6 +23,7 @@ mod random;
 mod recording;
 mod runs;
 mod series;
+mod steer;
 mod steps;
 mod sweep;
 mod text;

@@ -9,6 +9,7 @@ use std::thread::Threads;
 use vm_import::{ImportError, ImportSettings, import_log};
 use vm_series::{Series, collect_series, csv_text, svg_text};
 use vm_sim::{Open, RunError, Watched, run};
+use vm_steer::{Form, SteerError, steer};
 use vm_sweep::{Lists, Progress, sweep};
 
 // The report of a text, put into a digest.
@@ -125,4 +126,24 @@ pub fn import_of<R: Read + Drop>(
         Ok(_) => Ok(()),
         Err(error) => Err(run_error_of(error)),
     }
+}
+
+// Of a made log no policy is refused, and no sample is too long.
+fn run_error_of_log(error: SteerError) -> RunError {
+    match error {
+        SteerError::Policy(_) | SteerError::TooLong | SteerError::Read => RunError::Read,
+        SteerError::Write => RunError::Write,
+        SteerError::Memory => RunError::Memory,
+    }
+}
+
+/// The orders that come of the log of a host, put into a digest.
+pub fn orders_of<R: Read + Drop>(
+    alloc: Global,
+    log: R,
+    digest: &mut Digest,
+) -> Result<(), RunError> {
+    let mut reader = Watched::new(log);
+    let mut writer = Watched::new(digest);
+    steer(alloc, Form::Orders, &mut reader, &mut writer).map_err(run_error_of_log)
 }
