@@ -1,12 +1,9 @@
 -- The configuration of the data that the text of an import is.
-use Rattle.std.proofs.Common.{◌≡◌, ℕ, suc, ◌+◌, ◌/◌, ◌≤◌, true, List, [], ◌∷◌, length, map, min, Option, Some, None, Ok, refl, ap, arith, le-leb}
-use Rattle.std.specs.List.{list_all}
+use Rattle.std.proofs.Common.{◌≡◌, ℕ, ◌+◌, ◌/◌, ◌≤◌, true, List, [], ◌∷◌, length, min, Option, Some, None, Ok, refl, arith, le-leb}
 use Rattle.std.specs.Option.{ForSome, option_map_or}
 use Rattle.std.specs.Str.{is_utf8}
-use Rattle.serde_json.specs.Data.{array}
 use Rattle.serde_json.specs.Read.{read}
 use Rattle.vm_config.specs.Guests.{Listed}
-use Rattle.vm_config.specs.Keys.{is_text, list_of, text_of, texts_or_none}
 use Rattle.vm_config.specs.Names.{is_name}
 use Rattle.vm_config.specs.Reading.{config_of, listed_in, keys_in, machine_in, steps_from}
 use Rattle.vm_config.specs.Versions.{version_2}
@@ -14,27 +11,10 @@ use Rattle.vm_config.specs.declared.config.Config.{Config}
 use Rattle.vm_import.specs.Guests.{epochs_of}
 use Rattle.vm_import.specs.Settings.{Settings}
 use Rattle.vm_laws.specs.Meaning.{AreSettings}
-use Rattle.vm_laws.proofs.JsonLemmas.{AreSmall, Numbers, guest_data, root_data, strings_data}
+use Rattle.vm_laws.proofs.JsonLemmas.{AreSmall, Numbers, guest_data, root_data}
 use Rattle.vm_laws.proofs.ConfigTextLemmas.{numbers_of}
+use Rattle.vm_laws.proofs.StringLemmas.{texts-read}
 use Rattle.vm_trace.specs.declared.step.Action.{Action}
-
--- ---- an array of texts
-
-all-texts : (texts : List (List ℕ)) → list_all is_text (list_of (strings_data texts)) ≡ true
-all-texts [] = refl
-all-texts (text ∷ texts) = all-texts texts
-
-same-texts : (texts : List (List ℕ)) → map text_of (list_of (strings_data texts)) ≡ texts
-same-texts [] = refl
-same-texts (text ∷ texts) = ap (λ (l : List (List ℕ)). text ∷ l) (same-texts texts)
-
-length-texts : (texts : List (List ℕ)) → length (list_of (strings_data texts)) ≡ length texts
-length-texts [] = refl
-length-texts (text ∷ texts) = ap (λ (n : ℕ). suc n) (length-texts texts)
-
-texts-read : (texts : List (List ℕ)) → length texts ≤ 1000000 → texts_or_none 1000000 (Some (array (strings_data texts))) ≡ Ok texts
-texts-read texts few =
-    rw (all-texts texts, length-texts texts, le-leb (length texts) 1000000 few, same-texts texts) refl
 
 -- ---- numbers in their ranges
 

@@ -9,8 +9,9 @@ use Rattle.json.proofs.Printed.Utf8.{are_ascii, IsUtf8-are_ascii}
 use Rattle.vm_import.specs.Guests.{Guest, epochs_of, frames_for, min_of}
 use Rattle.vm_import.specs.Settings.{Settings}
 use Rattle.vm_import.specs.Texts.{head_of, listed, quoted, tail_of, text_of}
-use Rattle.vm_laws.proofs.JsonLemmas.{AreSmall, Numbers, root_json, strings}
+use Rattle.vm_laws.proofs.JsonLemmas.{AreSmall, Numbers, root_json}
 use Rattle.vm_laws.proofs.SafeLemmas.{AreSafe, ascii-append, ascii-safe, escape-safe, safe-decimal}
+use Rattle.vm_laws.proofs.StringLemmas.{strings}
 use Rattle.vm_laws.proofs.TokenLemmas.{text_before}
 
 -- each text is safe

@@ -1,45 +1,21 @@
 -- The JSON value that the text of an import is.
-use Rattle.std.proofs.Common.{◌≡◌, ℕ, ◌^◌, ◌<◌, ◌≤◌, List, [], ◌∷◌, codes, false, max, Some, decimal, option_map, option_and_then, refl, sym, ap, ◌∙◌, arith, append-nil}
+use Rattle.std.proofs.Common.{◌≡◌, ℕ, ◌^◌, ◌<◌, ◌≤◌, List, [], ◌∷◌, codes, false, Some, decimal, option_and_then, refl, sym, ap, ◌∙◌, arith, append-nil}
 use Rattle.std.proofs.lemmas.Fmt.{decimal_digit}
 use Rattle.json.specs.Json as json
-use Rattle.json.specs.Json.{Json, Items, Members, if_last}
+use Rattle.json.specs.Json.{Json, Members, if_last}
 use Rattle.json.specs.Print.{IsNumber}
-use Rattle.json.specs.Tree.{depth, items_depth, json_tokens, HasNumbers, ItemsHaveNumbers}
+use Rattle.json.specs.Tree.{depth, json_tokens, HasNumbers}
 use Rattle.json.specs.Word.{after_number}
 use Rattle.json.proofs.Printed.Decimals.{IsNumber-decimal}
 use Rattle.json.proofs.Printed.Trees.{ArePrintable-json_tokens, value-json_tokens}
 use Rattle.serde_json.specs.Data as value
 use Rattle.serde_json.specs.Data.{Data, put, unsigned}
-use Rattle.serde_json.specs.Read.{number_of, of_items, of_json, read, max_depth}
+use Rattle.serde_json.specs.Read.{number_of, of_json, read, max_depth}
 use Rattle.serde_json.proofs.Numbers.{number_of-decimal}
+use Rattle.vm_laws.proofs.StringLemmas.{number_data, of_items-strings, strings, strings_data, strings-depth, strings-numbers}
 use Rattle.vm_laws.proofs.TokenLemmas.{text_before, tokens-ended}
 
--- ---- an array of texts
-
-abbrev pub strings : List (List ℕ) → Items
-strings [] = json.no_items
-strings (text ∷ texts) = json.item (json.string text) (strings texts)
-
-abbrev pub strings_data : List (List ℕ) → value.Items
-strings_data [] = value.no_items
-strings_data (text ∷ texts) = value.item (value.string text) (strings_data texts)
-
-of_items-strings : (texts : List (List ℕ)) → of_items (strings texts) ≡ Some (strings_data texts)
-of_items-strings [] = refl
-of_items-strings (text ∷ texts) = ap (option_map (value.item (value.string text))) (of_items-strings texts)
-
-strings-depth : (texts : List (List ℕ)) → items_depth (strings texts) ≡ 0
-strings-depth [] = refl
-strings-depth (text ∷ texts) = ap (max 0) (strings-depth texts)
-
-strings-numbers : (texts : List (List ℕ)) → ItemsHaveNumbers (strings texts)
-strings-numbers [] = tt
-strings-numbers (text ∷ texts) = (tt, strings-numbers texts)
-
 -- ---- numbers
-
-abbrev pub number_data : ℕ → Data
-number_data n = value.number (unsigned n)
 
 two : number_of (50 ∷ []) ≡ Some (unsigned 2)
 two = ap number_of (sym (decimal_digit 2 (omega arith))) ∙ number_of-decimal 2 (omega arith)

@@ -14,3 +14,16 @@ pub mod RankLemmas
 pub mod TouchStepLemmas
 pub mod ConfigLemmas
 pub mod LawLemmas
+pub mod PrintLemmas
+pub mod StringLemmas
+pub mod NumeralLemmas
+pub mod CountedLemmas
+pub mod RecordedJsonLemmas
+pub mod RecordedTextLemmas
+pub mod RecordedLineLemmas
+pub mod RecordedRootLemmas
+pub mod RecordedAsciiLemmas
+pub mod RecordedTraceLemmas
+pub mod RecordedConfigLemmas
+pub mod RecordedLawLemmas
+pub mod RecordedExampleLemmas

@@ -9,6 +9,7 @@ use Rattle.std.specs.List.{list_all}
 use Rattle.std.specs.Str.Parse.{AllDigits}
 use Rattle.json.specs.Print.{escape}
 use Rattle.vm_config.specs.Names.{is_name, is_name_byte}
+use Rattle.vm_config.specs.Reading.{is_line_byte}
 use Rattle.json.proofs.Printed.Strings.{escape_byte_plain}
 use Rattle.json.proofs.Printed.Utf8.{are_ascii}
 
@@ -110,3 +111,14 @@ name-bytes-safe (x ∷ xs) are =
 
 pub name-safe : (name : List ℕ) → is_name name ≡ true → AreSafe name
 name-safe name is = let parts = and_parts _ (list_all is_name_byte name) is in name-bytes-safe name parts.1
+
+-- ---- command lines
+
+pub line-safe : (xs : List ℕ) → AreSafe xs → list_all is_line_byte xs ≡ true
+line-safe [] are = refl
+line-safe (x ∷ xs) are =
+    let parts = and_parts (is_safe x) (list_all is_safe xs) are in
+    let plain = plain-byte x parts.0 in
+    let high = plain.high in
+    and_from (is_line_byte x) (list_all is_line_byte xs)
+    (and_from (nat_le 32 x) (nat_le x 126) (le-leb 32 x plain.low) (le-leb x 126 (omega (arith, high)))) (line-safe xs parts.1)

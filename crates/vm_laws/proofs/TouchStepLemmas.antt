@@ -1,18 +1,16 @@
 -- The steps that an import writes are read as what its touches become.
-use Rattle.std.proofs.Common.{◌≡◌, ℕ, zero, suc, ◌+◌, ◌/◌, ◌%◌, ◌^◌, ◌<◌, ◌≤◌, inl, inr, Bool, true, false, if◌then◌else◌, nat_lt, List, [], ◌∷◌, ◌++◌, codes, decimal, length, map, replicate, Result, Ok, refl, sym, ap, ◌∙◌, arith, append_assoc, append-nil, le-leb, lt-ltb, le-ltb}
+use Rattle.std.proofs.Common.{◌≡◌, ℕ, zero, suc, ◌+◌, ◌/◌, ◌%◌, ◌<◌, ◌≤◌, inl, inr, Bool, true, false, if◌then◌else◌, nat_lt, List, [], ◌∷◌, ◌++◌, codes, decimal, length, map, replicate, Result, Ok, refl, sym, ap, ◌∙◌, arith, append_assoc, append-nil, le-leb, lt-ltb, le-ltb}
 use Rattle.std.proofs.lemmas.Bool.{and_from, cases_lt}
-use Rattle.std.proofs.lemmas.Fmt.{decimal_is_IsNumeral, decimal_nonempty, length-decimal-le}
 use Rattle.std.proofs.lemmas.List.{length-append}
 use Rattle.std.proofs.lemmas.List.Sums.{AllPass-from_list_all}
 use Rattle.std.specs.Char.{digit_value, is_ascii_digit}
-use Rattle.std.specs.List.{list_all}
-use Rattle.std.specs.Str.Parse.{AllDigits}
 use Rattle.vm_config.specs.Reading.{steps_from}
 use Rattle.vm_config.specs.Versions.{version_2}
 use Rattle.vm_import.specs.Steps.{byte_of, hex_digit, idle_behind, idle_steps, step_of, steps_of, trace_behind}
 use Rattle.vm_laws.specs.Meaning.{action_of, actions_behind, MeanSteps}
 use Rattle.vm_laws.proofs.RankLemmas.{Each}
-use Rattle.vm_laws.proofs.SafeLemmas.{AreSafe, digit_range, safe-append, safe-byte, safe-cons, safe-decimal}
+use Rattle.vm_laws.proofs.NumeralLemmas.{numeral}
+use Rattle.vm_laws.proofs.SafeLemmas.{AreSafe, safe-append, safe-byte, safe-cons, safe-decimal}
 use Rattle.vm_laws.proofs.ConfigTextLemmas.{AreAllSafe}
 use Rattle.vm_trace.specs.Sized.{steps_in, within_pages}
 use Rattle.vm_trace.specs.Spelling.{IsHexOf, IsNumeral}
@@ -26,25 +24,6 @@ use Rattle.vm_trace.specs.Versions.{before_3}
 use Rattle.vm_trace.proofs.SpelledIsRead.{steps_within-spelled}
 use Rattle.vm_import.specs.WorkingSets.{IsWithin}
 use Rattle.vm_import.specs.declared.touch.RankedTouch.{RankedTouch}
-
--- ---- numbers in a step
-
-all-digits : (ds : List ℕ) → AllDigits 10 ds → list_all is_ascii_digit ds ≡ true
-all-digits [] are = refl
-all-digits (d ∷ ds) are =
-    let range = digit_range d are.0 in
-    and_from (is_ascii_digit d) (list_all is_ascii_digit ds) (and_from _ _ (le-leb 48 d range.0) (le-leb d 57 range.1)) (all-digits ds are.1)
-
-numeral : (n : ℕ) → n < 10 ^ 10 → IsNumeral (decimal n) n
-numeral n small =
-    let fits : n < 2 ^ 64 = omega arith in
-    let is = decimal_is_IsNumeral n fits in
-    record {
-      some = decimal_nonempty n fits;
-      short = length-decimal-le 10 n (omega arith) small fits;
-      digits = AllPass-from_list_all is_ascii_digit (decimal n) (all-digits (decimal n) is.0.1);
-      value = is.1;
-    }
 
 -- ---- two hexadecimal digits
 

@@ -4,6 +4,10 @@ pub mod Swapped
 pub mod Plain
 pub mod Meaning
 pub mod ImportExamples
+pub mod RecordedSteps
+pub mod RecordedLines
+pub mod Recorded
+pub mod RecordedExamples
 pub mod Examples
 pub mod Corners
 pub mod Drawn

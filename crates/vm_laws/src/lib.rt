@@ -8,6 +8,9 @@
 //! `vm_import` makes a guest of a log of accesses to memory and writes its text, and `vm_config` reads texts of configurations. Here is
 //! which configuration the text means (`specs/Meaning.antt`), and [`law_imported`] says that it is read as that one.
 //! [`law_import_examples`] has two texts with their configurations, by computation (`specs/ImportExamples.antt`).
+//! [`law_recorded`] says the same of the text that `vm_recorded` has of a recorded host (`specs/Recorded.antt`, with its steps in
+//! `specs/RecordedSteps.antt` and its command lines in `specs/RecordedLines.antt`), and [`law_recorded_example`] has a small host with
+//! both, by hand (`specs/RecordedExamples.antt`).
 //!
 //! [`law_examples`], [`law_corners`] and [`law_drawn`] have whole reports of runs, by computation of their definitions: each clause is a
 //! configuration and the text that its report is. The texts were told by a program that shares nothing with this repository, so they say
@@ -18,6 +21,8 @@ mod import_examples;
 mod imported;
 mod lines;
 mod names;
+mod recorded;
+mod recorded_examples;
 mod reports;
 mod swapped;
 
@@ -25,5 +30,7 @@ pub use import_examples::law_import_examples;
 pub use imported::law_imported;
 pub use lines::law_lines;
 pub use names::law_names;
+pub use recorded::law_recorded;
+pub use recorded_examples::law_recorded_example;
 pub use reports::{law_corners, law_drawn, law_examples, law_numbers};
 pub use swapped::law_swapped;

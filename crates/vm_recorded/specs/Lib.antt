@@ -1,0 +1,11 @@
+pub mod Traces
+pub mod Hosts
+pub mod Commands
+pub mod Texts
+pub mod Limits
+pub mod Uses
+pub mod Parts
+pub mod Pieces
+pub mod Counts
+pub mod Lengths
+pub mod Examples
