@@ -12,6 +12,6 @@ pub mod SpanLemmas
 pub mod BoundLemmas
 pub mod CommentLemmas
 pub mod FieldLemmas
-mod BlockLemmas
-mod FailLemmas
-mod WholeLemmas
+pub mod BlockLemmas
+pub mod FailLemmas
+pub mod WholeLemmas

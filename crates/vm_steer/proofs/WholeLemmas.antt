@@ -28,7 +28,7 @@ use Rattle.vm_streams.specs.Streams.{AppendsFront}
 
 -- ---- nothing is written
 
-keeps_same : (bytes : Option (List ℕ)) → Keeps bytes bytes
+pub keeps_same : (bytes : Option (List ℕ)) → Keeps bytes bytes
 keeps_same None = tt
 keeps_same (Some bytes) = refl
 
@@ -49,7 +49,7 @@ at_beginning (Some bytes) = refl
 pub from_beginning : (from : LogView) (read : Option (List ℕ)) → from ≡ beginning → left from read ≡ read
 from_beginning from read is = ap (λ (l : LogView). left l read) is ∙ at_beginning read
 
-policy_at : (found : Bool) (bytes block : List ℕ) (after : Option (List ℕ)) → Gives (Some bytes) found block after → policy_in bytes ≡ policy_of block
+pub policy_at : (found : Bool) (bytes block : List ℕ) (after : Option (List ℕ)) → Gives (Some bytes) found block after → policy_in bytes ≡ policy_of block
 policy_at found bytes block None gives = absurd gives
 policy_at true bytes block (Some rest) gives = ap (λ (bs : List (List ℕ)). policy_of (first_or_all bs bytes)) gives.blocks
 policy_at false bytes block (Some rest) gives =
@@ -145,7 +145,7 @@ shifted index (part ∷ parts) = elim (cases_Bool (is_long part)) [
 ]
 
 module _ (form : Form) (bytes block rest : List ℕ) (policy : PolicyView) (front : IsFirstBlock bytes block rest) (few : length block ≤ 16777216) (means : policy_of block ≡ Ok policy) where
-  means_here : policy_in bytes ≡ Ok policy
+  pub means_here : policy_in bytes ≡ Ok policy
   means_here = policy_at true bytes block (Some rest) front ∙ means
 
   output_here : output_in form bytes ≡ output_by form (Ok policy) (samples_of (blocks_of rest))
@@ -157,7 +157,7 @@ module _ (form : Form) (bytes block rest : List ℕ) (policy : PolicyView) (fron
   parts_here : parts_of bytes ≡ block ∷ parts_of rest
   parts_here = λ i. front.blocks i ++ front.unended i ∷ []
 
-  long_here : long_in bytes ≡ option_map (λ n. n + 1) (long_in rest)
+  pub long_here : long_in bytes ≡ option_map (λ n. n + 1) (long_in rest)
   long_here =
       let behind : position_from is_long 0 (block ∷ parts_of rest) ≡ position_from is_long 1 (parts_of rest) = rw (short block few) refl in
       ap (position_from is_long 0) parts_here ∙ behind ∙ shifted 0 (parts_of rest)

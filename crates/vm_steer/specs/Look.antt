@@ -6,6 +6,7 @@ use Rattle.vm_samples.specs.Names.{is_name}
 use Rattle.vm_samples.specs.Policies.{GuestPolicyView, PolicyView}
 use Rattle.vm_samples.specs.Samples.{DomainView}
 use Rattle.vm_steer.specs.declared.balloon.Balloon.{Balloon}
+use Rattle.vm_steer.specs.declared.bounds.Bounds.{Bounds}
 use Rattle.vm_steer.specs.declared.limits.Limits.{Limits}
 use Rattle.vm_steer.specs.declared.measures.Measures.{Measures}
 use Rattle.vm_steer.specs.declared.rules.Rules.{Rules}
@@ -77,6 +78,13 @@ measures_of unit cache last b size =
     let slow = slow_of last fraction in
     let fast = fast_of last fraction in
     record { held = held; used = used; swap_in = swap_in; slow = slow; fast = fast; active = active_of slow fast fraction }
+
+-- what a domain of a size is left at least and may have at most, and its shares
+unfoldable pub bounds_at : (ballooned : ℕ) → Rules → (size : ℕ) → Bounds
+bounds_at ballooned rules size =
+    let most = most_of size rules.max in
+    let least = least_of size ballooned most rules.min in
+    record { min = least; cap = cap_of most least; shares = rules.shares }
 
 -- what it is left and may have, by the policy
 unfoldable pub limits_of : (ballooned patience : ℕ) → Rules → Option RememberedView → (size held : ℕ) → Limits

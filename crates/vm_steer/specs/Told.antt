@@ -86,6 +86,7 @@ remembered_with numbers target = record {
 unfoldable pub steered_by : PolicyView → (may_rise : Bool) → NumbersView → Outcome → SteeredDomain
 steered_by policy may_rise numbers outcome = record {
   remembered = remembered_with numbers outcome.target;
+  size = numbers.size;
   used = numbers.measures.used;
   active = numbers.measures.active;
   shares = numbers.shares;

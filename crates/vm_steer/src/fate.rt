@@ -18,6 +18,8 @@ pub struct LeftDomain {
 pub struct SteeredDomain {
     /// Its target after all decisions, what it holds without promises, and what else is remembered of it.
     pub remembered: Remembered,
+    /// Its size, all that it may have: 1 to 262144.
+    pub size: u32,
     /// What it uses.
     pub used: u32,
     /// Its active fraction, of 65536.

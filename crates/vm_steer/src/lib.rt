@@ -19,6 +19,7 @@
 #![tactic(auto)]
 
 mod balloon;
+mod bounds;
 mod decide;
 mod fate;
 mod form;
@@ -46,10 +47,12 @@ mod text;
 mod told;
 mod why;
 
+pub use bounds::{Bounds, bounds_at, rules_for};
 pub use fate::{Fate, LeftDomain, SteeredDomain};
 pub use form::Form;
 pub use law::{law_bad_samples, law_bounds, law_fairness, law_promise, law_records};
 pub use remembered::Remembered;
+pub use rules::Rules;
 pub use steer_error::SteerError;
 pub use steering::Steering;
 pub use stream::steer;

@@ -16,8 +16,7 @@ pub(crate) struct Limits {
 }
 
 // The policy's greatest, at most the size, or the size.
-fn most_of(size: u32, greatest: Option<u64>) -> u32
-    requires { IfSome greatest (λ n. 1 ≤ n) }
+pub(crate) fn most_of(size: u32, greatest: Option<u64>) -> u32
     ensures exact { result ≡ most_of size greatest }
     ensures few { result ≤ size }
 {
@@ -28,23 +27,24 @@ fn most_of(size: u32, greatest: Option<u64>) -> u32
 }
 
 // The policy's least, or what is left where the part `ballooned` of a hundred is; at least 1.
-fn least_of(size: u32, ballooned: u32, most: u32, least: Option<u64>) -> u32
-    requires some { 1 ≤ size }
-    requires few { size ≤ 262144 }
+pub(crate) fn least_of(size: u32, ballooned: u32, most: u32, least: Option<u64>) -> u32
     requires part { ballooned ≤ 99 }
     requires most { most ≤ size }
     ensures exact { result ≡ least_of size ballooned most least }
     ensures some { 1 ≤ result }
-    ensures few { result ≤ size }
+    ensures few { 1 ≤ size → result ≤ size }
 {
     match least {
         Some(least) => (least.min(u64::from(size)) as u32).max(1),
-        None => (size * (100 - ballooned)).div_ceil(100).min(most).max(1),
+        None => {
+            let left = u64::from(size) * u64::from(100 - ballooned);
+            (left.div_ceil(100).min(u64::from(most)) as u32).max(1)
+        }
     }
 }
 
 // Where the policy's least is above its greatest, that is the cap.
-fn cap_of(most: u32, least: u32) -> u32
+pub(crate) fn cap_of(most: u32, least: u32) -> u32
     ensures { result ≡ cap_of most least }
 {
     most.max(least)

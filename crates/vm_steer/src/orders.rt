@@ -64,6 +64,7 @@ fn steered_by(
 {
     SteeredDomain {
         remembered: remembered_with(numbers, outcome.target),
+        size: numbers.size,
         used: numbers.measures.used,
         active: numbers.measures.active,
         shares: numbers.shares,

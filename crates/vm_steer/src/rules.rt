@@ -7,19 +7,20 @@ ghost use Rattle.vm_steer.specs.Look.{rules_in, rules_of, usual};
 use crate::keys::key_of;
 use vm_samples::GuestPolicy;
 
-// How a domain is steered.
-#[derive(Clone, Copy)]
-pub(crate) struct Rules {
-    // The units that it is left at least.
-    pub(crate) min: Option<u64>,
-    // The units that it has at most.
-    pub(crate) max: Option<u64>,
-    pub(crate) shares: u32,
-    // Whether it is steered at all.
-    pub(crate) steer: bool,
+/// How a domain is steered by a policy.
+#[derive(Clone, Copy, Debug)]
+pub struct Rules {
+    /// The units that it is left at least, if the policy says so.
+    pub min: Option<u64>,
+    /// The units that it has at most, if the policy says so.
+    pub max: Option<u64>,
+    /// 1 to 1000000.
+    pub shares: u32,
+    /// Whether it is steered at all.
+    pub steer: bool,
 }
 
-const USUAL: Rules = Rules {
+pub(crate) const USUAL: Rules = Rules {
     min: None,
     max: None,
     shares: 1000,
@@ -40,7 +41,7 @@ fn is_of(guest: &GuestPolicy, guest_key: u32, name: &[u8], key: u32) -> bool
     }
 }
 
-fn rules_in(guest: &GuestPolicy) -> Rules
+pub(crate) fn rules_in(guest: &GuestPolicy) -> Rules
     ensures exact { result ≡ rules_in guest.now }
     ensures some_max { IfSome result.max (λ n. 1 ≤ n) }
     ensures some_shares { 1 ≤ result.shares }
