@@ -27,3 +27,5 @@ pub mod RecordedTraceLemmas
 pub mod RecordedConfigLemmas
 pub mod RecordedLawLemmas
 pub mod RecordedExampleLemmas
+pub mod LoggedPolicyLemmas
+pub mod LoggedLemmas

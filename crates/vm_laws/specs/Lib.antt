@@ -8,6 +8,7 @@ pub mod RecordedSteps
 pub mod RecordedLines
 pub mod Recorded
 pub mod RecordedExamples
+pub mod Logged
 pub mod Examples
 pub mod Corners
 pub mod Drawn

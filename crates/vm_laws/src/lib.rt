@@ -10,7 +10,8 @@
 //! [`law_import_examples`] has two texts with their configurations, by computation (`specs/ImportExamples.antt`).
 //! [`law_recorded`] says the same of the text that `vm_recorded` has of a recorded host (`specs/Recorded.antt`, with its steps in
 //! `specs/RecordedSteps.antt` and its command lines in `specs/RecordedLines.antt`), and [`law_recorded_example`] has a small host with
-//! both, by hand (`specs/RecordedExamples.antt`).
+//! both, by hand (`specs/RecordedExamples.antt`). [`law_logged`] says it of the text that `vm_log` makes of a host log, whatever its bytes
+//! are (`specs/Logged.antt`).
 //!
 //! [`law_examples`], [`law_corners`] and [`law_drawn`] have whole reports of runs, by computation of their definitions: each clause is a
 //! configuration and the text that its report is. The texts were told by a program that shares nothing with this repository, so they say
@@ -20,6 +21,7 @@
 mod import_examples;
 mod imported;
 mod lines;
+mod logged;
 mod names;
 mod recorded;
 mod recorded_examples;
@@ -29,6 +31,7 @@ mod swapped;
 pub use import_examples::law_import_examples;
 pub use imported::law_imported;
 pub use lines::law_lines;
+pub use logged::law_logged;
 pub use names::law_names;
 pub use recorded::law_recorded;
 pub use recorded_examples::law_recorded_example;

@@ -1,0 +1,12 @@
+use Rattle.std.proofs.Common.{◌<◌, length, arith, refl}
+use Rattle.vm_log.specs.Steps.{raised_alone}
+use Rattle.vm_log.proofs.LoopLemmas.{map_next}
+use Rattle.vm_log.proofs.alone.raise_beside.Goals as goal
+
+pub loop-place-preserved : goal.loop-place-preserved
+loop-place-preserved c =
+    let less : c.loop-place.place < length c.args.beside.now = omega (arith, c.loop-place.invariant.ends, c.loop-place-test.true) in
+    record {
+      ends = refl;
+      done = map_next (raised_alone c.args.entries.now) c.args.beside.now c.loop-place.beside c.loop-place.place c.index-beside-place.result c.raise.new.alone less c.loop-place.invariant.done c.raise.ensures;
+    }

@@ -1,0 +1,16 @@
+pub mod Seen
+pub mod NamesSeen
+pub mod Epochs
+pub mod HostOf
+pub mod Taking
+pub mod Streams
+pub mod Errors
+pub mod Alone
+pub mod Steps
+pub mod Growing
+pub mod Told
+pub mod Judging
+pub mod Recorded
+pub mod Sampling
+pub mod Following
+pub mod Courses
