@@ -167,7 +167,7 @@ class Policy:
         self.unit = keys.units("unit", lambda kib, _: kib, 1, 4, 1048576, None)
         if self.unit is None:
             self.unit = 1024
-            while memory // self.unit > MOST_UNITS:
+            while memory // self.unit > MOST_UNITS and self.unit < 1048576:
                 self.unit *= 2
         unit = self.unit
         self.frames = memory // unit

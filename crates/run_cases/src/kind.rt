@@ -21,11 +21,12 @@ pub(crate) enum Kind {
     VmsweepForms,
     Vmtrace,
     Vmsteer,
+    Vmlog,
 }
 
 impl Kind {
     /// All of them, in the order in which they are tried.
-    pub(crate) const ALL: [Kind; 11] = [
+    pub(crate) const ALL: [Kind; 12] = [
         Kind::Reports,
         Kind::Series,
         Kind::Charts,
@@ -37,6 +38,7 @@ impl Kind {
         Kind::VmsweepForms,
         Kind::Vmtrace,
         Kind::Vmsteer,
+        Kind::Vmlog,
     ];
 
     /// The name of its file, which is `NAME.cases`.
@@ -53,6 +55,7 @@ impl Kind {
             Kind::VmsweepForms => "vmsweep-forms",
             Kind::Vmtrace => "vmtrace",
             Kind::Vmsteer => "vmsteer",
+            Kind::Vmlog => "vmlog",
         }
     }
 
@@ -74,7 +77,8 @@ impl Kind {
             | Kind::Vmsweep
             | Kind::VmsweepForms
             | Kind::Vmtrace
-            | Kind::Vmsteer => ends::try_block(rt, block, tally),
+            | Kind::Vmsteer
+            | Kind::Vmlog => ends::try_block(rt, block, tally),
         }
     }
 

@@ -1,5 +1,6 @@
 pub mod Words
 pub mod runs
+pub mod vmlog
 pub mod vmmem
 pub mod vmseries
 pub mod vmsteer

@@ -6,6 +6,7 @@
 #![tactic(auto)]
 
 pub mod runs;
+pub mod vmlog;
 pub mod vmmem;
 pub mod vmseries;
 pub mod vmsteer;

@@ -1,0 +1,4 @@
+pub mod Statuses
+pub mod CommandLine
+pub mod Examples
+pub mod Written

@@ -1,0 +1,31 @@
+//! What is said on standard error of a host log.
+ghost use Rattle.std.specs.Prelude.{◌≡◌};
+ghost use Rattle.vm_programs.specs.vmlog.Statuses.{status_of};
+
+use super::line::LINE;
+use vm_log::{PlanError, Planned};
+
+// Says which limit ended the reading, if one did, and how many bad samples were passed over, if any were.
+pub(crate) fn tell(system: &impl Eprint, planned: Planned) {
+    let program = LINE.program;
+    if let Some(limit) = planned.limit {
+        let epochs = planned.epochs;
+        let _ = eprintln!(system; "{program}: ends after {epochs} epochs: no more than {limit}");
+    }
+    let bad = planned.bad;
+    if bad > 0 {
+        let _ = eprintln!(system; "{program}: {bad} bad samples");
+    }
+}
+
+// Says why there is no configuration, and gives the status to end with. A log that is too long is one that can't be read.
+pub(crate) fn complain(system: &impl Eprint, error: PlanError) -> u8
+    ensures { result ≡ status_of error }
+{
+    match error {
+        PlanError::Policy(fault) => LINE.refuse(system, fault),
+        PlanError::Read | PlanError::TooLong => LINE.read_failed(system),
+        PlanError::Write => LINE.write_failed(system),
+        PlanError::Memory => LINE.no_memory(system),
+    }
+}
