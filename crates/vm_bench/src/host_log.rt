@@ -5,9 +5,6 @@ use std::alloc::{AllocError, Global};
 use std::io;
 use std::io::Read;
 
-// As many as a sample may have.
-const DOMAINS: u32 = 256;
-
 // In KiB: what each domain has at most, what it holds at least, and by how much what it holds differs.
 const MAXIMUM: u32 = 4_194_304;
 
@@ -15,7 +12,7 @@ const LEAST: u32 = 1_048_576;
 
 const SPREAD: u32 = 3_145_728;
 
-// The samples that differ, in some 100 KB each. They come round.
+// The samples that differ, in some 400 bytes for each domain. They come round.
 const SAMPLES: u32 = 32;
 
 // A line of a domain.
@@ -51,21 +48,21 @@ fn push_domain(sample: &mut Text, random: &mut Random, number: u32) -> Result<()
     push_line(sample, "balloon.rss", current)
 }
 
-// A sample, with the line that ends it.
-fn sample(alloc: Global, random: &mut Random) -> Result<Text, AllocError> {
+// A sample of so many domains, with the line that ends it.
+fn sample(alloc: Global, random: &mut Random, domains: u32) -> Result<Text, AllocError> {
     let mut sample = Text::new(alloc);
-    for number in 0..DOMAINS {
+    for number in 0..domains {
         push_domain(&mut sample, random, number)?;
     }
     sample.push("---\n")?;
     Ok(sample)
 }
 
-/// Samples that differ, of domains that hold 1 to 4 GiB each.
-pub fn samples(alloc: Global, random: &mut Random) -> Result<Vec<Text>, AllocError> {
+/// Samples that differ, of so many domains that hold 1 to 4 GiB each.
+pub fn samples(alloc: Global, random: &mut Random, domains: u32) -> Result<Vec<Text>, AllocError> {
     let mut samples = Vec::new(alloc);
     for _ in 0..SAMPLES {
-        samples.push(sample(alloc, random)?)?;
+        samples.push(sample(alloc, random, domains)?)?;
     }
     Ok(samples)
 }
@@ -85,11 +82,18 @@ fn push_guest(policy: &mut Text, random: &mut Random, number: u32) -> Result<(),
     policy.push("}")
 }
 
-/// A policy that names all domains and promises two thirds of what they may have, with the line that ends it.
-pub fn policy(alloc: Global, random: &mut Random) -> Result<Text, AllocError> {
+/// A policy that names so many domains and promises this memory, in GiB, with the line that ends it.
+pub fn policy(
+    alloc: Global,
+    random: &mut Random,
+    domains: u32,
+    memory: u32,
+) -> Result<Text, AllocError> {
     let mut policy = Text::new(alloc);
-    policy.push("{\"version\":1,\"memory\":\"680GiB\",\"guests\":[")?;
-    for number in 0..DOMAINS {
+    policy.push("{\"version\":1,\"memory\":\"")?;
+    policy.number(memory)?;
+    policy.push("GiB\",\"guests\":[")?;
+    for number in 0..domains {
         push_guest(&mut policy, random, number)?;
     }
     policy.push("]}\n---\n")?;

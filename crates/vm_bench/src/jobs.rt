@@ -5,6 +5,7 @@ use crate::digest::Digest;
 use crate::drivers::drivers;
 use crate::fleet::fleet;
 use crate::import::import;
+use crate::log::log;
 use crate::months::months;
 use crate::policy::policy;
 use crate::series::series;
@@ -29,10 +30,11 @@ pub enum Job {
     Import,
     Steps,
     Steer,
+    Log,
 }
 
 /// All jobs.
-pub const JOBS: [Job; 11] = [
+pub const JOBS: [Job; 12] = [
     Job::Day,
     Job::Months,
     Job::Fleet,
@@ -44,6 +46,7 @@ pub const JOBS: [Job; 11] = [
     Job::Import,
     Job::Steps,
     Job::Steer,
+    Job::Log,
 ];
 
 impl Job {
@@ -61,17 +64,18 @@ impl Job {
             Job::Import => "import",
             Job::Steps => "steps",
             Job::Steer => "steer",
+            Job::Log => "log",
         }
     }
 
     /// Whether the word `all` stands for it too. It does not for [`Job::Series`], since `policy` makes the same calls, not for
     /// [`Job::Sweep`] and [`Job::Import`], since the stored runs of `vmsweep` and `vmtrace` show what they make, and not for
-    /// [`Job::Steps`], since its text is of version 3 and those of `all` are of version 2, and not for [`Job::Steer`], since the
-    /// stored run of `vmsteer` shows what it makes.
+    /// [`Job::Steps`], since its text is of version 3 and those of `all` are of version 2, nor for [`Job::Steer`] and
+    /// [`Job::Log`], since the stored runs of `vmsteer` and `vmlog` show what they make.
     pub fn is_in_all(self) -> bool {
         !matches!(
             self,
-            Job::Series | Job::Sweep | Job::Import | Job::Steps | Job::Steer
+            Job::Series | Job::Sweep | Job::Import | Job::Steps | Job::Steer | Job::Log
         )
     }
 
@@ -96,6 +100,7 @@ impl Job {
             Job::Import => import(alloc, seed, part, &mut digest)?,
             Job::Steps => steps(rt, alloc, seed, part, &mut digest)?,
             Job::Steer => steer(alloc, seed, part, &mut digest)?,
+            Job::Log => log(alloc, seed, part, &mut digest)?,
         }
         Ok(digest)
     }

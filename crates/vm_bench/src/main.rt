@@ -1,12 +1,11 @@
 //! Does jobs that users of this software wait for, on inputs of its own making, and prints a digest of all their results:
 //! `vm_bench JOB SEED [PART]`.
 //!
-//! JOB is `day`, `months`, `fleet`, `policy`, `drivers`, `awkward`, or `all` of them, or `series`, `sweep`, `import`, `steps` or
-//! `steer`, which `all` leaves out: `policy` makes the same calls as `series`, the stored runs of `vmsweep`, `vmtrace` and `vmsteer`
-//! show the table of a sweep, the guest of a log and the orders to a host, and the text of `steps` is of version 3, those of `all` of
-//! version 2. Each SEED gives other
-//! inputs of the same kind and size, and PART makes them so many times smaller. A line says the job, how many bytes its results
-//! have, and their digest.
+//! JOB is `day`, `months`, `fleet`, `policy`, `drivers`, `awkward`, or `all` of them, or `series`, `sweep`, `import`, `steps`, `steer` or
+//! `log`, which `all` leaves out: `policy` makes the same calls as `series`, the stored runs of `vmsweep`, `vmtrace`, `vmsteer` and
+//! `vmlog` show the table of a sweep, the guest of a log, the orders to a host and the configuration of one, and the text of `steps`
+//! is of version 3, those of `all` of version 2. Each SEED gives other inputs of the same kind and size, and PART makes them so many
+//! times smaller. A line says the job, how many bytes its results have, and their digest.
 #![tactic(auto)]
 
 mod awkward;
@@ -17,6 +16,7 @@ mod fleet;
 mod host_log;
 mod import;
 mod jobs;
+mod log;
 mod months;
 mod policy;
 mod random;

@@ -7,6 +7,7 @@ use std::alloc::Global;
 use std::io::Read;
 use std::thread::Threads;
 use vm_import::{ImportError, ImportSettings, import_log};
+use vm_log::{PlanError, plan_log};
 use vm_series::{Series, collect_series, csv_text, svg_text};
 use vm_sim::{Open, RunError, Watched, run};
 use vm_steer::{Form, SteerError, steer};
@@ -146,4 +147,31 @@ pub fn orders_of<R: Read + Drop>(
     let mut reader = Watched::new(log);
     let mut writer = Watched::new(digest);
     steer(alloc, Form::Orders, &mut reader, &mut writer).map_err(run_error_of_log)
+}
+
+// The same of a log that makes a configuration.
+fn run_error_of_plan(error: PlanError) -> RunError {
+    match error {
+        PlanError::Policy(_) | PlanError::TooLong | PlanError::Read => RunError::Read,
+        PlanError::Write => RunError::Write,
+        PlanError::Memory => RunError::Memory,
+    }
+}
+
+/// The configuration that comes of the log of a host, with so many samples an epoch, put into a digest.
+pub fn plan_of<R: Read + Drop>(
+    alloc: Global,
+    every: u32,
+    log: R,
+    digest: &mut Digest,
+) -> Result<(), RunError>
+    requires some { 1 ≤ every }
+    requires few { every ≤ 10000 }
+{
+    let mut reader = Watched::new(log);
+    let mut writer = Watched::new(digest);
+    match plan_log(alloc, every, &mut reader, &mut writer) {
+        Ok(_) => Ok(()),
+        Err(error) => Err(run_error_of_plan(error)),
+    }
 }
