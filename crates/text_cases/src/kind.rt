@@ -23,6 +23,8 @@ pub(crate) enum Kind {
     Lists,
     ListPlaces,
     ListValues,
+    NamedLists,
+    ListNames,
     JsonTexts,
     JsonNumbers,
     JsonMembers,
@@ -45,7 +47,7 @@ pub(crate) enum Kind {
 
 impl Kind {
     /// All of them, in the order in which they are tried.
-    pub(crate) const ALL: [Kind; 35] = [
+    pub(crate) const ALL: [Kind; 37] = [
         Kind::ConfigKeys,
         Kind::ConfigRanges,
         Kind::ConfigLengths,
@@ -63,6 +65,8 @@ impl Kind {
         Kind::Lists,
         Kind::ListPlaces,
         Kind::ListValues,
+        Kind::NamedLists,
+        Kind::ListNames,
         Kind::JsonTexts,
         Kind::JsonNumbers,
         Kind::JsonMembers,
@@ -103,6 +107,8 @@ impl Kind {
             Kind::Lists => "lists",
             Kind::ListPlaces => "list-places",
             Kind::ListValues => "list-values",
+            Kind::NamedLists => "named-lists",
+            Kind::ListNames => "list-names",
             Kind::JsonTexts => "json-texts",
             Kind::JsonNumbers => "json-numbers",
             Kind::JsonMembers => "json-members",
@@ -144,6 +150,8 @@ impl Kind {
             Kind::Lists => lists::list(alloc, line),
             Kind::ListPlaces => lists::place(alloc, line),
             Kind::ListValues => lists::shown(alloc, line),
+            Kind::NamedLists => lists::named(alloc, line),
+            Kind::ListNames => lists::names(alloc, line),
             Kind::JsonTexts => json::texts::outcome(alloc, line),
             Kind::JsonNumbers => json::numbers::outcome(alloc, line),
             Kind::JsonMembers => json::members::outcome(alloc, line),

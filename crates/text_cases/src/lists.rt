@@ -2,7 +2,11 @@
 use crate::optional::optional;
 use crate::table::{Columns, Outcome};
 use std::alloc::{AllocError, Global};
-use vm_lists::{Limits, Unit, ValueList, push_value, read_list};
+use vm_config::is_name;
+use vm_lists::{
+    Limits, NameRule, NamedList, Unit, ValueList, check_names, push_value, read_list,
+    read_named_list,
+};
 
 const FRAMES: Limits = Limits {
     unit: Unit::Whole,
@@ -81,6 +85,62 @@ pub(crate) fn list(alloc: Global, line: &str) -> Result<Outcome, AllocError> {
     match read_list(alloc, &case.limits, case.text) {
         Ok(list) => Outcome::of(alloc, case.wanted, &told(alloc, &list)?),
         Err(fault) => Outcome::of(alloc, case.wanted, &fault),
+    }
+}
+
+/// Tries a list with a name in front.
+pub(crate) fn named(alloc: Global, line: &str) -> Result<Outcome, AllocError> {
+    let Some(case) = Case::of(line) else {
+        return Ok(Outcome::Malformed);
+    };
+    match read_named_list(alloc, &case.limits, case.text) {
+        Ok(list) => {
+            let name = list.name;
+            let values = told(alloc, &list.values)?;
+            Outcome::of(alloc, case.wanted, &format!(in alloc; "'{name}' {values}")?)
+        }
+        Err(fault) => Outcome::of(alloc, case.wanted, &fault),
+    }
+}
+
+// The names that guests may have.
+struct GuestNames;
+
+impl NameRule for GuestNames {
+    ghost use Rattle.vm_config.specs.Names.{is_name};
+
+    ghost is_name = { is_name };
+
+    fn is_name(&self, text: &str) -> bool {
+        is_name(text)
+    }
+}
+
+// The lists of a text, with a blank between two of them.
+fn lists_in<'a>(alloc: Global, text: &'a str) -> Result<Option<Vec<NamedList<'a>>>, AllocError> {
+    let mut lists = Vec::new(alloc);
+    for word in text.split(' ') {
+        let Ok(list) = read_named_list(alloc, &ALL, word) else {
+            return Ok(None);
+        };
+        lists.push(list)?;
+    }
+    Ok(Some(lists))
+}
+
+/// Tries the names of several lists.
+pub(crate) fn names(alloc: Global, line: &str) -> Result<Outcome, AllocError> {
+    let mut columns = Columns::of(line);
+    let (Some(text), Some(wanted), Some(())) = (columns.quoted(), columns.text(), columns.end())
+    else {
+        return Ok(Outcome::Malformed);
+    };
+    let Some(lists) = lists_in(alloc, text)? else {
+        return Ok(Outcome::Malformed);
+    };
+    match check_names(&GuestNames, lists.as_slice()) {
+        Ok(()) => Outcome::of(alloc, wanted, &"good"),
+        Err(fault) => Outcome::of(alloc, wanted, &fault),
     }
 }
 

@@ -52,7 +52,7 @@ decimals_from word h read =
     (d.0, is, scaled (length word) d.0 h is.some is.short (some_is _ h d.2))
 
 -- the text round the one byte that passes
-around : (p : ℕ → Bool) (byte : ℕ) (text : List ℕ) → ((b : ℕ) → p b ≡ true → b ≡ byte) → has p text ≡ true → text ≡ before_first p text ++ byte ∷ after_first p text
+pub around : (p : ℕ → Bool) (byte : ℕ) (text : List ℕ) → ((b : ℕ) → p b ≡ true → b ≡ byte) → has p text ≡ true → text ≡ before_first p text ++ byte ∷ after_first p text
 around p byte text tells h =
     let inside = ltb-true (position_or_len p text) (length text) h in
     split_at_first p text 0 inside ∙ ap (λ b. before_first p text ++ b ∷ after_first p text) (tells _ (passes_at_first p text 0 inside))
@@ -87,7 +87,7 @@ begins_is (a ∷ b ∷ rest) h =
     let parts = and_parts (a == 46) (b == 46) h in
     (λ i. eqb-true a 46 parts.0 i ∷ eqb-true b 46 parts.1 i ∷ rest)
 
-dots_from : (text : List ℕ) (parts : List ℕ × List ℕ) → around_dots text ≡ Some parts → text ≡ parts.0 ++ 46 ∷ 46 ∷ parts.1
+pub dots_from : (text : List ℕ) (parts : List ℕ × List ℕ) → around_dots text ≡ Some parts → text ≡ parts.0 ++ 46 ∷ 46 ∷ parts.1
 dots_from [] parts h = absurd cc
 dots_from (x ∷ rest) parts h =
     elim (chosen (begins_with_dots (x ∷ rest)) _ _ _ h) [

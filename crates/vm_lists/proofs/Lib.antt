@@ -1,8 +1,11 @@
 pub mod Choices
 pub mod DotLaws
+pub mod EndLaws
 pub mod GrammarLaws
 pub mod ItemLaws
 pub mod ListLaws
+pub mod NameLaws
+pub mod NamedLaws
 pub mod NumberLaws
 pub mod PlaceLaws
 pub mod RangeLaws

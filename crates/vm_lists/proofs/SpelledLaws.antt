@@ -224,7 +224,7 @@ items_spelled limits at [] each = refl
 items_spelled limits at (x ∷ items) each =
     rw (item_spelled limits at x.0 x.1 each.0, items_spelled limits (at + (length x.0 + 1)) items each.1) refl
 
-list_spelled : (limits : Limits) (text values : List ℕ) → IsList limits text values → list_of limits text ≡ Ok values
+pub list_spelled : (limits : Limits) (text values : List ℕ) → IsList limits text values → list_of limits text ≡ Ok values
 unfolding list_of
 list_spelled limits text values is =
     ap (λ t. items_of limits 0 (slice_split is_comma t)) is.texts ∙ ap (items_of limits 0) (split_joined limits is.items is.each is.some)
@@ -243,7 +243,7 @@ pub if_some : (limits : Limits) (text : List ℕ) (r : Result (List ℕ) ListFau
 if_some limits text (Ok values) h = (list_within limits text values h).some
 if_some limits text (Err found) h = tt
 
-memory_from : (kind : ListFaultKind) → (kind ≢ Memory → ⊥) → kind ≡ Memory
+pub memory_from : (kind : ListFaultKind) → (kind ≢ Memory → ⊥) → kind ≡ Memory
 memory_from NoItem h = absurd (h (λ e. cc))
 memory_from (OutsideRange limits) h = absurd (h (λ e. cc))
 memory_from EndsBelow h = absurd (h (λ e. cc))

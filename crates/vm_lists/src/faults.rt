@@ -30,3 +30,43 @@ pub enum ListFaultKind {
     #[error("out of memory")]
     Memory,
 }
+
+/// The first fault of a list with a name.
+#[derive(Clone, Copy, Debug, PartialEq, Eq, Error)]
+#[error("at byte {at}: {kind}")]
+pub struct NamedListFault {
+    /// The byte of the text where it stands, from 0: the name and its `=` count too.
+    pub at: usize,
+    pub kind: NamedListFaultKind,
+}
+
+/// What the fault is.
+#[derive(Clone, Copy, Debug, PartialEq, Eq, Error)]
+pub enum NamedListFaultKind {
+    /// The text ends there, and has no `=`.
+    #[error("no = behind the name")]
+    NoEquals,
+    /// The list behind the `=` has this fault.
+    #[error("{fault}")]
+    BadList { fault: ListFaultKind },
+}
+
+/// The first fault of the names of lists.
+#[derive(Clone, Copy, Debug, PartialEq, Eq, Error)]
+#[error("name {place}: {kind}")]
+pub struct NameFault {
+    /// The place of its list, from 0.
+    pub place: usize,
+    pub kind: NameFaultKind,
+}
+
+/// What the fault is.
+#[derive(Clone, Copy, Debug, PartialEq, Eq, Error)]
+pub enum NameFaultKind {
+    /// It is no name.
+    #[error("no name")]
+    NoName,
+    /// It is the name of an earlier list.
+    #[error("twice")]
+    Twice,
+}

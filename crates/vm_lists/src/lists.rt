@@ -116,10 +116,11 @@ pub fn read_list(alloc: Global, limits: &Limits, text: &str) -> Result<ValueList
     list_of(alloc, limits, text)
 }
 
-// Reads a list item by item.
-fn list_of(alloc: Global, limits: &Limits, text: &str) -> Result<ValueList, ListFault>
+// Reads a list item by item. A fault stands in the text, or at its end.
+pub(crate) fn list_of(alloc: Global, limits: &Limits, text: &str) -> Result<ValueList, ListFault>
     ensures values { IfOk result (λ values. list_of limits.now text.now ≡ Ok values) }
     ensures fault { IfErr result (IsFaultOf (list_of limits.now text.now)) }
+    ensures inside { IfErr result (λ fault. fault.at ≤ length text.now) }
 {
     let mut list = ValueList::new(alloc);
     let mut left = Some(text);
