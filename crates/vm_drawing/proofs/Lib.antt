@@ -1,4 +1,5 @@
 pub mod PictureLemmas
+pub mod BandLemmas
 pub mod ScaleLemmas
 pub mod RoundLemmas
 pub mod StackedLemmas

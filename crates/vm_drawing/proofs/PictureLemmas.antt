@@ -88,12 +88,18 @@ pub known_as : {T E A : Type 0} {r : Result T E} {old new more : List A} (known 
     → OnOk r (new ≡ old ++ known)
 known_as {r = r} {old = old} {new = new} {more = more} known same rest = ended_with r old new more known same rest.is
 
--- the text of four lists of shapes
-pub text-of_four : (a b c d : List Shape)
+-- the text of four lists of shapes, and of five
+text-of_four : (a b c d : List Shape)
     → shapes_text a ++ (shapes_text b ++ (shapes_text c ++ shapes_text d)) ≡ shapes_text (a ++ (b ++ (c ++ d)))
 text-of_four a b c d =
     sym (text-append a (b ++ (c ++ d)) ∙ ap (λ l. shapes_text a ++ l) (text-append b (c ++ d)
     ∙ ap (λ l. shapes_text b ++ l) (text-append c d)))
+
+pub text-of_five : (a b c d e : List Shape)
+    → shapes_text a ++ (shapes_text b ++ (shapes_text c ++ (shapes_text d ++ shapes_text e)))
+    ≡ shapes_text (a ++ (b ++ (c ++ (d ++ e))))
+text-of_five a b c d e =
+    ap (λ l. shapes_text a ++ l) (text-of_four b c d e) ∙ sym (text-append a (b ++ (c ++ (d ++ e))))
 
 -- a head, three pieces of a body, and an end
 pub body_within : (t1 t2 t3 t4 t5 a b c d e : List ℕ) → t1 ≡ a → t2 ≡ t1 ++ b → t3 ≡ t2 ++ c → t4 ≡ t3 ++ d → t5 ≡ t4 ++ e

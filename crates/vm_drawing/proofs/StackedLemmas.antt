@@ -6,10 +6,11 @@ use Rattle.std.proofs.Math.Nat.{le-max_left, le-max_right}
 use native.Mathlib.Nat.{div-add-mod', div-le_of_le-mul, div-lt_iff_lt-mul, mod-lt, mul-le-mul_left, mul-le-mul_right, mul_comm}
 use Rattle.vm_drawing.specs.declared.scale.Axis.{Axis}
 use Rattle.vm_drawing.specs.declared.scale.Scale.{Scale}
-use Rattle.vm_drawing.specs.Drawing.{Chart, Curve, value_at}
+use Rattle.vm_drawing.specs.declared.spread.Spread.{Spread}
+use Rattle.vm_drawing.specs.Drawing.{Chart, Curve, ends_among, ends_of, shown, value_at}
 use Rattle.vm_drawing.specs.Values.{greatest}
 use Rattle.vm_drawing.specs.Scale.{round_from, round_up, round_within, scale_of_words, scale_to, step_for, tick_step, top_of, y_of}
-use Rattle.vm_drawing.specs.Picture.{area_of, axes, chart_shapes, columns_for, entries_from, greatest_in, is_marked, is_on, keys, legend, level_at, levels, lines_for, longest, mark_at, mark_if, marks_along, room_of, scale_of, tick_at, ticks}
+use Rattle.vm_drawing.specs.Picture.{area_of, axes, band_if, band_of, bands, chart_shapes, columns_for, entries_from, greatest_in, is_marked, is_on, keys, legend, level_at, levels, lines_for, longest, mark_at, mark_if, marks_along, room_of, scale_of, tick_at, ticks}
 use Rattle.vm_drawing.specs.Shapes.{Path}
 use Rattle.vm_drawing.specs.Stacked.{AreStacked, Each, HasWords, IsBetween, IsInside}
 
@@ -95,9 +96,9 @@ below-greatest (value ∷ values) = (
   each-weaken _ _ values (λ x small. later-below x (unwrap_or value 0) (greatest values) small) (below-greatest values),
 )
 
--- no value of these curves is above a top
+-- no value of these curves and their bands is above a top
 abbrev AreBelow : ℕ → List Curve → Type 0
-AreBelow top curves = Each (λ curve. Each (λ value. IfSome value (λ v. v ≤ top)) curve.values) curves
+AreBelow top curves = Each (λ curve. Each (λ value. IfSome value (λ v. v ≤ top)) (shown curve)) curves
 
 raised : (a b : ℕ) (value : Option ℕ) → a ≤ b → IfSome value (λ v. v ≤ a) → IfSome value (λ v. v ≤ b)
 raised a b None less small = tt
@@ -105,14 +106,15 @@ raised a b (Some v) less small = omega (arith, less, small)
 
 all-raised : (a b : ℕ) (curves : List Curve) → a ≤ b → AreBelow a curves → AreBelow b curves
 all-raised a b curves less all =
-    each-weaken _ _ curves (λ curve below. each-weaken _ _ curve.values (λ value small. raised a b value less small) below) all
+    each-weaken _ _ curves (λ curve below. each-weaken _ _ (shown curve) (λ value small. raised a b value less small) below) all
 
 all-below-greatest : (curves : List Curve) → AreBelow (greatest_in curves) curves
 all-below-greatest [] = tt
 all-below-greatest (curve ∷ curves) = (
-  each-weaken _ _ curve.values (λ value small. raised (greatest curve.values) _ value (le-max_left (greatest curve.values) (greatest_in curves)) small)
-      (below-greatest curve.values),
-  all-raised (greatest_in curves) _ curves (le-max_right (greatest curve.values) (greatest_in curves)) (all-below-greatest curves),
+  each-weaken _ _ (shown curve)
+      (λ value small. raised (greatest (shown curve)) _ value (le-max_left (greatest (shown curve)) (greatest_in curves)) small)
+      (below-greatest (shown curve)),
+  all-raised (greatest_in curves) _ curves (le-max_right (greatest (shown curve)) (greatest_in curves)) (all-below-greatest curves),
 )
 
 words-below : (n : ℕ) (value : Option ℕ) → IfSome value (λ v. v < n) → IfSome value (λ v. v ≤ top_of (scale_of_words n))
@@ -120,14 +122,14 @@ words-below n None small = tt
 words-below n (Some v) small = omega (arith, small, le-max_right 1 (n - 1))
 
 below-top-of : (words : List (List ℕ)) (curves : List Curve)
-    → (0 < length words → Each (λ curve. Each (λ value. IfSome value (λ v. v < length words)) curve.values) curves)
+    → (0 < length words → Each (λ curve. Each (λ value. IfSome value (λ v. v < length words)) (shown curve)) curves)
     → AreBelow (top_of (if length words == 0 then scale_to (greatest_in curves) else scale_of_words (length words))) curves
 below-top-of [] curves has = all-raised (greatest_in curves) _ curves (numbers-reach (greatest_in curves)) (all-below-greatest curves)
 below-top-of (word ∷ words) curves has =
     let n = length (word ∷ words) in
     let some : (n == 0) ≡ false = grind arith in
     let below : AreBelow (top_of (scale_of_words n)) curves =
-    each-weaken _ _ curves (λ curve all. each-weaken _ _ curve.values (λ value small. words-below n value small) all) (has (omega arith)) in
+    each-weaken _ _ curves (λ curve all. each-weaken _ _ (shown curve) (λ value small. words-below n value small) all) (has (omega arith)) in
     subst (λ (b : Bool). AreBelow (top_of (if b then scale_to (greatest_in curves) else scale_of_words n)) curves) (sym some) below
 
 -- in each chart no value is above the upper edge
@@ -139,6 +141,24 @@ value-below : (values : List (Option ℕ)) (top i : ℕ) → Each (λ value. IfS
 value-below [] top i all = tt
 value-below (value ∷ values) top zero all = all.0
 value-below (value ∷ values) top (suc i) all = value-below values top i all.1
+
+-- of what a curve shows the first are those of its band, and the last its own values
+each-first : {A : Type 0} (P : A → Type 0) (xs ys : List A) → Each P (xs ++ ys) → Each P xs
+each-first P [] ys all = tt
+each-first P (x ∷ xs) ys all = (all.0, each-first P xs ys all.1)
+
+each-last : {A : Type 0} (P : A → Type 0) (xs ys : List A) → Each P (xs ++ ys) → Each P ys
+each-last P [] ys all = all
+each-last P (x ∷ xs) ys all = each-last P xs ys all.1
+
+abbrev IsBelow : ℕ → Option ℕ → Type 0
+IsBelow top value = IfSome value (λ v. v ≤ top)
+
+values-of : (top : ℕ) (curve : Curve) → Each (IsBelow top) (shown curve) → Each (IsBelow top) curve.values
+values-of top curve all = each-last (IsBelow top) (ends_of curve.band) curve.values all
+
+ends-of : (top : ℕ) (curve : Curve) → Each (IsBelow top) (shown curve) → Each (IsBelow top) (ends_of curve.band)
+ends-of top curve all = each-first (IsBelow top) (ends_of curve.band) curve.values all
 
 -- ---- the shapes of a chart
 
@@ -187,10 +207,21 @@ module _ (axis : Axis) (y to : ℕ) (c : Chart) (below : AreBelow (top_of (scale
   value-inside None small = tt
   value-inside (Some v) small = inside (scale_of c) v small
 
+  band-between : (curve : Curve) (band : Option (List (Option Spread))) → Each (IsBelow (top_of (scale_of c))) (ends_of band)
+      → Each (IsBetween y to) (band_if (area_of axis y c) curve band)
+  band-between curve None all = tt
+  band-between curve (Some spreads) all =
+      ((omega arith, omega (arith, room), each-weaken _ _ (ends_among spreads) value-inside all), tt)
+
+  bands-between : Each (IsBetween y to) (bands (area_of axis y c) c.curves)
+  bands-between =
+      each-flat_map (IsBetween y to) (band_of (area_of axis y c)) c.curves
+      (each-weaken _ _ c.curves (λ curve all. band-between curve curve.band (ends-of (top_of (scale_of c)) curve all)) below)
+
   paths-between : Each (IsBetween y to) (map (Path (area_of axis y c)) c.curves)
   paths-between =
       each-map (IsBetween y to) (Path (area_of axis y c)) c.curves
-      (each-weaken _ _ c.curves (λ curve all. (omega arith, omega (arith, room), each-weaken _ _ curve.values value-inside all)) below)
+      (each-weaken _ _ c.curves (λ curve all. (omega arith, omega (arith, room), each-weaken _ _ curve.values value-inside (values-of (top_of (scale_of c)) curve all))) below)
 
   mark-between : (curve : Curve) (i : ℕ) (value : Option ℕ) → IfSome value (λ v. v ≤ top_of (scale_of c))
       → Each (IsBetween y to) (mark_if (area_of axis y c) curve i value)
@@ -205,7 +236,7 @@ module _ (axis : Axis) (y to : ℕ) (c : Chart) (below : AreBelow (top_of (scale
       (each-weaken _ _ c.curves (λ curve all.
       each-range (IsBetween y to) (mark_at (area_of axis y c) curve) 0 (length curve.values)
       (λ i low high. each-if (IsBetween y to) (is_marked (length curve.values) i curve.number) _
-      (mark-between curve i (value_at curve.values i) (value-below curve.values (top_of (scale_of c)) i all)))) below)
+      (mark-between curve i (value_at curve.values i) (value-below curve.values (top_of (scale_of c)) i (values-of (top_of (scale_of c)) curve all))))) below)
 
   entries-between : (n columns slot : ℕ) (curves : List Curve) → 0 < columns → slot + length curves ≤ n
       → y + 34 + (scale_of c).height + 54 + 24 * div_ceil n columns ≤ to
@@ -232,8 +263,9 @@ module _ (axis : Axis) (y to : ℕ) (c : Chart) (below : AreBelow (top_of (scale
     (
       (omega arith, omega (arith, room)),
       each-append (IsBetween y to) (axes along (area_of axis y c) c) _ (axes-between along)
+          (each-append (IsBetween y to) (bands (area_of axis y c) c.curves) _ bands-between
           (each-append (IsBetween y to) (map (Path (area_of axis y c)) c.curves) _ paths-between
-          (each-append (IsBetween y to) (keys (area_of axis y c) c) _ (keys-between c.is_keyed enough) (tt, tt))),
+          (each-append (IsBetween y to) (keys (area_of axis y c) c) _ (keys-between c.is_keyed enough) (tt, tt)))),
     ),
   )
 

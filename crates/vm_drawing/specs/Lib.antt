@@ -5,6 +5,7 @@ pub mod Drawing
 pub mod Counts
 pub mod Page
 pub mod Curves
+pub mod Bands
 pub mod Shapes
 pub mod Picture
 pub mod Layout

@@ -7,11 +7,12 @@ use Rattle.std.specs.List.{flat_map, range_with_len}
 use Rattle.vm_drawing.specs.declared.area.Area.{Area}
 use Rattle.vm_drawing.specs.declared.scale.Axis.{Axis}
 use Rattle.vm_drawing.specs.declared.scale.Scale.{Scale}
+use Rattle.vm_drawing.specs.declared.spread.Spread.{Spread}
 use Rattle.vm_drawing.specs.declared.texts.Style.TheVariants.{Heading, Plain, Title, End, Middle}
-use Rattle.vm_drawing.specs.Drawing.{Chart, Curve, Drawing, place_at, value_at}
+use Rattle.vm_drawing.specs.Drawing.{Chart, Curve, Drawing, place_at, shown, value_at}
 use Rattle.vm_drawing.specs.Values.{greatest}
 use Rattle.vm_drawing.specs.Scale.{scale_of_words, scale_to, tick_step, x_of, y_of}
-use Rattle.vm_drawing.specs.Shapes.{Shape, Open, Close, Words, Upright, Level, Tick, Path, Mark, Entry, document}
+use Rattle.vm_drawing.specs.Shapes.{Shape, Open, Close, Words, Upright, Level, Tick, Band, Path, Mark, Entry, document}
 
 -- ---- places in a chart
 
@@ -101,10 +102,10 @@ lines_for curves = div_ceil (length curves) (columns_for curves)
 
 -- ---- a chart
 
--- the greatest value of all curves
+-- the greatest value of all curves and their bands
 abbrev pub greatest_in : List Curve → ℕ
 greatest_in [] = 0
-greatest_in (curve ∷ curves) = max (greatest curve.values) (greatest_in curves)
+greatest_in (curve ∷ curves) = max (greatest (shown curve)) (greatest_in curves)
 
 abbrev pub scale_of : Chart → Scale
 scale_of c = if length c.words == 0 then scale_to (greatest_in c.curves) else scale_of_words (length c.words)
@@ -116,6 +117,17 @@ area_of axis y c = record { base = y + 34 + (scale_of c).height; scale = scale_o
 -- how many pixels a chart takes, with its title and its legend
 abbrev pub room_of : Chart → ℕ
 room_of c = 34 + (scale_of c).height + 54 + (if c.is_keyed then 24 * lines_for c.curves else 0)
+
+abbrev pub band_if : Area → Curve → Option (List (Option Spread)) → List Shape
+band_if area curve None = []
+band_if area curve (Some spreads) = Band area curve spreads ∷ []
+
+abbrev pub band_of : Area → Curve → List Shape
+band_of area curve = band_if area curve curve.band
+
+-- bands come before all curves, so that none covers them
+abbrev pub bands : Area → List Curve → List Shape
+bands area curves = flat_map (band_of area) curves
 
 -- marks come behind all curves, so that none covers them
 abbrev pub keys : Area → Chart → List Shape
@@ -130,7 +142,7 @@ axes along area c =
 abbrev pub chart_shapes : List ℕ → Area → Chart → List Shape
 chart_shapes along area c =
     Open c.title ∷ Words Title 90 (area.base - (area.scale.height + 14)) c.title
-    ∷ (axes along area c ++ (map (Path area) c.curves ++ (keys area c ++ Close ∷ [])))
+    ∷ (axes along area c ++ (bands area c.curves ++ (map (Path area) c.curves ++ (keys area c ++ Close ∷ []))))
 
 -- ---- the picture
 

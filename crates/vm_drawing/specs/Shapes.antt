@@ -1,10 +1,12 @@
 -- What a picture is made of, and its text as an SVG (Scalable Vector Graphics 1.1). Lengths are pixels, from the upper left.
-use Rattle.std.specs.Prelude.{ℕ, ◌+◌, ◌/◌, ◌%◌, ◌==◌, List, [], ◌∷◌, ◌++◌, codes, if◌then◌else◌, nat_lt}
+use Rattle.std.specs.Prelude.{ℕ, ◌+◌, ◌/◌, ◌%◌, ◌==◌, List, [], ◌∷◌, ◌++◌, Option, codes, if◌then◌else◌, nat_lt}
 use Rattle.std.specs.Fmt.{decimal}
 use Rattle.std.specs.List.{flat_map}
 use Rattle.vm_drawing.specs.declared.area.Area.{Area}
+use Rattle.vm_drawing.specs.declared.spread.Spread.{Spread}
 use Rattle.vm_drawing.specs.declared.texts.Style.{Style}
 use Rattle.vm_drawing.specs.declared.texts.Style.TheVariants.{Heading, Plain, Title, End, Middle}
+use Rattle.vm_drawing.specs.Bands.{outline_text}
 use Rattle.vm_drawing.specs.Curves.{pair, path_text}
 use Rattle.vm_drawing.specs.Drawing.{Curve}
 
@@ -20,6 +22,8 @@ pub data Shape : Type 0 where
   Level : (y : ℕ) → Shape
   -- a short line below a chart
   Tick : (x y : ℕ) → Shape
+  -- the band behind a curve
+  Band : Area → Curve → List (Option Spread) → Shape
   Path : Area → Curve → Shape
   -- the number of a curve in a circle
   Mark : (x y number : ℕ) → Shape
@@ -102,6 +106,13 @@ curve_text area curve =
     ++ (stroke_text curve.number ++ (codes " d=\"" ++ (path_text area curve ++ (codes "\"><title>"
     ++ (escaped curve.name ++ codes "</title></path>\n")))))))
 
+-- a band has the colour of its curve, a fifth as strong
+unfoldable pub band_text : Area → Curve → List (Option Spread) → List ℕ
+band_text area curve spreads =
+    codes "<path class=\"band\" transform=\"translate(90," ++ (decimal area.base ++ (codes ") scale(1,-1)\""
+    ++ (attribute (codes "fill") (colour curve.number) ++ (codes " fill-opacity=\"0.2\" d=\"" ++ (outline_text area curve spreads
+    ++ (codes "\"><title>" ++ (escaped curve.name ++ codes "</title></path>\n")))))))
+
 unfoldable pub circle_text : ℕ → ℕ → ℕ → List ℕ
 circle_text x y number =
     codes "<circle class=\"mark\"" ++ (attribute (codes "stroke") (colour number) ++ (attribute (codes "cx") (decimal x)
@@ -133,6 +144,7 @@ shape_text (Words style x y words) = words_text style x y words
 shape_text (Upright y words) = upright_text y words
 shape_text (Level y) = level_line y
 shape_text (Tick x y) = tick_text x y
+shape_text (Band area curve spreads) = band_text area curve spreads
 shape_text (Path area curve) = curve_text area curve
 shape_text (Mark x y number) = mark_text x y number
 shape_text (Entry x y number name) = entry_text x y number name

@@ -2,10 +2,10 @@
 use Rattle.std.specs.Prelude.{ℕ, ◌+◌, ◌<◌, ◌≤◌, ⊤, List, [], ◌∷◌, IfSome, Option, length}
 use Rattle.vm_drawing.specs.declared.area.Area.{Area}
 use Rattle.vm_drawing.specs.declared.scale.Axis.{Axis}
-use Rattle.vm_drawing.specs.Drawing.{Chart}
+use Rattle.vm_drawing.specs.Drawing.{Chart, ends_among, shown}
 use Rattle.vm_drawing.specs.Picture.{area_of, chart_shapes, room_of}
 use Rattle.vm_drawing.specs.Scale.{y_of}
-use Rattle.vm_drawing.specs.Shapes.{Shape, Open, Close, Words, Upright, Level, Tick, Path, Mark, Entry}
+use Rattle.vm_drawing.specs.Shapes.{Shape, Open, Close, Words, Upright, Level, Tick, Band, Path, Mark, Entry}
 
 -- it is true of each element
 abbrev pub Each : {A : Type 0} → (A → Type 0) → List A → Type 0
@@ -24,6 +24,8 @@ IsBetween from to (Words style x y words) = (from + 16 ≤ y) × (y + 4 ≤ to)
 IsBetween from to (Upright y words) = (from ≤ y) × (y ≤ to)
 IsBetween from to (Level y) = (from ≤ y) × (y ≤ to)
 IsBetween from to (Tick x y) = (from ≤ y) × (y + 6 ≤ to)
+IsBetween from to (Band area curve spreads) =
+    (from + area.scale.height ≤ area.base) × (area.base ≤ to) × Each (IsInside area) (ends_among spreads)
 IsBetween from to (Path area curve) =
     (from + area.scale.height ≤ area.base) × (area.base ≤ to) × Each (IsInside area) curve.values
 IsBetween from to (Mark x y number) = (from + 8 ≤ y) × (y + 8 ≤ to)
@@ -37,4 +39,4 @@ AreStacked along axis y (c ∷ cs) =
 
 -- there is a word for each value, if there are words
 abbrev pub HasWords : Chart → Type 0
-HasWords c = 0 < length c.words → Each (λ curve. Each (λ value. IfSome value (λ v. v < length c.words)) curve.values) c.curves
+HasWords c = 0 < length c.words → Each (λ curve. Each (λ value. IfSome value (λ v. v < length c.words)) (shown curve)) c.curves

@@ -1,19 +1,21 @@
 //! What is drawn: charts over one axis, and the curves in them.
 ghost use Rattle.std.specs.Prelude.{◌≡◌, ◌≤◌, length, map, option_map, string_bytes};
-ghost use Rattle.vm_drawing.specs.Drawing.{level_curve, straight_curve};
+ghost use Rattle.vm_drawing.specs.Drawing.{banded_curve, level_curve, straight_curve};
 
 use crate::scale::Axis;
+use crate::spread::Spread;
 use std::marker::Model;
 
 // ---- curves
 
-/// A curve of a chart: a name, a number that is shown from 1, and its values, each with its place on the axis.
+/// A curve of a chart: a name, a number that is shown from 1, its values, each with its place on the axis, and maybe a band behind it.
 #[derive(Drop)]
 pub struct Curve {
     number: u64,
     name: String,
     values: Vec<Option<u64>>,
     places: Option<Vec<u64>>,
+    band: Option<Vec<Option<Spread>>>,
 }
 
 impl Model for Curve {
@@ -27,6 +29,7 @@ impl Model for Curve {
       name = string_bytes c.name;
       values = c.values.items;
       places = option_map (λ v. v.items) c.places;
+      band = option_map (λ v. v.items) c.band;
     } };
 }
 
@@ -41,6 +44,7 @@ impl Curve {
             name,
             values,
             places: None,
+            band: None,
         }
     }
 
@@ -54,6 +58,27 @@ impl Curve {
             name,
             values,
             places: Some(places),
+            band: None,
+        }
+    }
+
+    /// A curve as of [`Curve::straight`] with a band behind it, in its colour and a fifth as strong: the area from the least to the
+    /// greatest of `spreads`, at the places of the same indexes, with straight edges and a gap where there is no spread.
+    pub fn banded(
+        number: u64,
+        name: String,
+        values: Vec<Option<u64>>,
+        places: Vec<u64>,
+        spreads: Vec<Option<Spread>>,
+    ) -> Self
+        ensures { result ≡ banded_curve number (string_bytes name) values.items places.items spreads.items }
+    {
+        Curve {
+            number,
+            name,
+            values,
+            places: Some(places),
+            band: Some(spreads),
         }
     }
 
@@ -79,6 +104,12 @@ impl Curve {
         ensures { option_map (λ places. places.now) result ≡ self.now.places }
     {
         self.places.as_ref().map(|places| places.as_slice())
+    }
+
+    pub(crate) fn band(&self) -> Option<&[Option<Spread>]>
+        ensures { option_map (λ spreads. spreads.now) result ≡ self.now.band }
+    {
+        self.band.as_ref().map(|spreads| spreads.as_slice())
     }
 }
 

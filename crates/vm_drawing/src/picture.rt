@@ -3,18 +3,21 @@ ghost use Rattle.std.specs.Prelude.{◌≡◌, ◌+◌, ◌*◌, ◌-◌, ◌<�
 ghost use Rattle.std.specs.Fmt.{decimal};
 ghost use Rattle.std.specs.List.{flat_map};
 ghost use Rattle.vm_drawing.specs.declared.texts.Style.TheVariants.{End};
+ghost use Rattle.vm_drawing.specs.Drawing.{ends_of};
 ghost use Rattle.vm_drawing.specs.Layout.{IsSmall};
-ghost use Rattle.vm_drawing.specs.Picture.{area_of, axes, chart_shapes, charts_from, columns_for, end_of, entries_from, entry_in, greatest_in, is_marked, is_on, keys, legend, level_at, levels, lines_for, longest, mark_at, mark_if, mark_place, marks_along, room_of, scale_of, stride, svg_of, tick_at, ticks};
+ghost use Rattle.vm_drawing.specs.Picture.{area_of, axes, band_of, bands, chart_shapes, charts_from, columns_for, end_of, entries_from, entry_in, greatest_in, is_marked, is_on, keys, legend, level_at, levels, lines_for, longest, mark_at, mark_if, mark_place, marks_along, room_of, scale_of, stride, svg_of, tick_at, ticks};
 ghost use Rattle.vm_drawing.specs.Shapes.{Path, shape_text, shapes_text, words_text};
+ghost use Rattle.vm_drawing.specs.Values.{greatest};
 
 use crate::area::{Area, LEFT};
+use crate::bands::put_band;
 use crate::drawing::{Chart, Curve, Drawing};
 use crate::scale::{Axis, Pixels, Scale};
 use crate::texts::{
     Style, place_among, put, put_curve, put_entry, put_head, put_level, put_mark, put_open,
     put_tick, put_upright, put_words, value_at,
 };
-use crate::values::greatest;
+use crate::values::{greatest, greatest_end};
 use itoa::Buffer;
 use std::alloc::{AllocError, Global};
 
@@ -244,12 +247,23 @@ fn put_keys(text: &mut Vec<u8>, area: Area, chart: &Chart) -> Result<(), AllocEr
 
 // ---- a chart
 
+// The greatest value of the band behind a curve, or 0.
+fn greatest_of_band(curve: &Curve) -> u64
+    ensures { result ≡ greatest (ends_of curve.now.band) }
+{
+    match curve.band() {
+        Some(spreads) => greatest_end(spreads),
+        None => 0,
+    }
+}
+
 fn greatest_in(curves: &[Curve]) -> u64
     ensures { result ≡ greatest_in curves.now }
 {
     let mut most = 0;
     for curve in curves {
         most = greatest(curve.values()).max(most);
+        most = greatest_of_band(curve).max(most);
     }
     most
 }
@@ -286,6 +300,26 @@ fn room_of(chart: &Chart) -> Pixels
     }
 }
 
+fn put_band_of(text: &mut Vec<u8>, area: Area, curve: &Curve) -> Result<(), AllocError>
+    requires { area.scale.parts ≤ 100 }
+    ensures { OnOk result (text.new.items ≡ text.old.items ++ shapes_text (band_of area curve.now)) }
+{
+    match curve.band() {
+        Some(spreads) => put_band(text, area, curve, spreads),
+        None => Ok(()),
+    }
+}
+
+fn put_bands(text: &mut Vec<u8>, area: Area, curves: &[Curve]) -> Result<(), AllocError>
+    requires { area.scale.parts ≤ 100 }
+    ensures { OnOk result (text.new.items ≡ text.old.items ++ shapes_text (bands area curves.now)) }
+{
+    for curve in curves {
+        put_band_of(text, area, curve)?;
+    }
+    Ok(())
+}
+
 fn put_curves(text: &mut Vec<u8>, area: Area, curves: &[Curve]) -> Result<(), AllocError>
     requires { area.scale.parts ≤ 100 }
     ensures { OnOk result (text.new.items ≡ text.old.items ++ shapes_text (map (Path area) curves.now)) }
@@ -305,6 +339,7 @@ fn put_chart(text: &mut Vec<u8>, along: &str, area: Area, chart: &Chart) -> Resu
     let above = area.base.saturating_sub(u128::from(area.scale.height) + 14);
     put_words(text, Style::Title, LEFT, above, chart.title())?;
     put_axes(text, along, area, chart)?;
+    put_bands(text, area, chart.curves())?;
     put_curves(text, area, chart.curves())?;
     put_keys(text, area, chart)?;
     put(text, "</g>\n")
@@ -361,8 +396,9 @@ fn end_of(charts: &[Chart]) -> Pixels
 ///
 /// A place p of the axis from f to l stands (p - f) * 880 / (l - f) pixels right of a chart's left edge, and a value v of a chart of
 /// numbers, whose upper edge is t, v * 200 / t pixels above its base; both are rounded down. There t is the least multiple of the
-/// step between two levels that reaches each value, and the step the least of 1, 2, 5, 10, 20, 50 and so on of which five do. A
-/// curve is told from others by its colour, by its dashes and by its number, so that black and white are enough.
+/// step between two levels that reaches each value, of bands too, and the step the least of 1, 2, 5, 10, 20, 50 and so on of which
+/// five do. A curve is told from others by its colour, by its dashes and by its number, so that black and white are enough. Bands lie
+/// behind all curves of their chart.
 ///
 /// [`AllocError`] comes only where memory was refused.
 pub fn draw(alloc: Global, drawing: &Drawing) -> Result<Vec<u8>, AllocError>

@@ -37,7 +37,7 @@ pub(crate) fn put(text: &mut Vec<u8>, piece: &str) -> Result<(), AllocError>
     text.extend_from_slice(piece.as_bytes())
 }
 
-fn put_number(text: &mut Vec<u8>, number: u128) -> Result<(), AllocError>
+pub(crate) fn put_number(text: &mut Vec<u8>, number: u128) -> Result<(), AllocError>
     ensures { OnOk result (text.new.items ≡ text.old.items ++ decimal number) }
 {
     let mut buffer = Buffer::new();
@@ -61,7 +61,7 @@ fn put_byte(text: &mut Vec<u8>, byte: u8) -> Result<(), AllocError>
     }
 }
 
-fn put_escaped(text: &mut Vec<u8>, words: &str) -> Result<(), AllocError>
+pub(crate) fn put_escaped(text: &mut Vec<u8>, words: &str) -> Result<(), AllocError>
     ensures { OnOk result (text.new.items ≡ text.old.items ++ escaped words.now) }
 {
     let bytes = words.as_bytes();
@@ -72,7 +72,7 @@ fn put_escaped(text: &mut Vec<u8>, words: &str) -> Result<(), AllocError>
 }
 
 #[tactic(auto, unfolding(crate::specs::Shapes::attribute))]
-fn put_attribute(text: &mut Vec<u8>, name: &str, value: &str) -> Result<(), AllocError>
+pub(crate) fn put_attribute(text: &mut Vec<u8>, name: &str, value: &str) -> Result<(), AllocError>
     ensures { OnOk result (text.new.items ≡ text.old.items ++ attribute name.now value.now) }
 {
     put(text, " ")?;
@@ -90,7 +90,7 @@ fn put_length(text: &mut Vec<u8>, name: &str, length: Pixels) -> Result<(), Allo
 }
 
 #[tactic(auto, unfolding(crate::specs::Curves::pair))]
-fn put_pair(text: &mut Vec<u8>, x: Pixels, y: Pixels) -> Result<(), AllocError>
+pub(crate) fn put_pair(text: &mut Vec<u8>, x: Pixels, y: Pixels) -> Result<(), AllocError>
     ensures { OnOk result (text.new.items ≡ text.old.items ++ pair x y) }
 {
     put_number(text, x)?;
@@ -205,7 +205,7 @@ fn hue(number: u64) -> &'static str
     }
 }
 
-fn colour(number: u64) -> &'static str
+pub(crate) fn colour(number: u64) -> &'static str
     ensures { result.now ≡ colour number }
 {
     let turn = (u128::from(number) + u128::from(number / 8)) % 8;
