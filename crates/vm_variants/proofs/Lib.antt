@@ -1,0 +1,11 @@
+pub mod ListLemmas
+pub mod PartLemmas
+pub mod GuestLemmas
+pub mod SeedLemmas
+pub mod SettingLemmas
+pub mod RefusalLemmas
+pub mod ValueLemmas
+pub mod RunLemmas
+pub mod TextLemmas
+pub mod WitnessLemmas
+pub mod MachineLemmas

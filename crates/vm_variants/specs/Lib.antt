@@ -1,0 +1,5 @@
+pub mod Guests
+pub mod Variants
+pub mod Changes
+pub mod Texts
+pub mod Examples
