@@ -75,7 +75,7 @@ fn told(alloc: Global, mut config: Config, values: Combination) -> Result<(Strin
     values.apply(&mut config);
     match run_alone(alloc, config) {
         Ok((summary, config)) => {
-            let text = record_text(alloc, Rebalancing::Own, &values, &summary)?;
+            let text = record_text(alloc, Rebalancing::Own, &values, &[], &summary)?;
             Ok((text, config))
         }
         Err(_) => bail!("no run"),
@@ -120,22 +120,22 @@ fn check_guests(alloc: Global, block: &[Entry], mut config: Config) -> Result<()
     let Ok((guests, _)) = run_guests_alone(alloc, config) else {
         bail!("no run");
     };
-    let text = guest_records_text(alloc, Rebalancing::Own, &values, &names, &guests)?;
+    let text = guest_records_text(alloc, Rebalancing::Own, &values, &[], &names, &guests)?;
     let records = wanted_guests(alloc, block)?;
     ensure!(text.as_str() == records.as_str(), "{text:?}");
     Ok(())
 }
 
 /// Tries the headers of a block.
-fn try_headers(rt: &impl Print, block: &[Entry], tally: &mut Tally) -> Result<()> {
+fn try_headers(rt: &(impl Print + AllocGlobal), block: &[Entry], tally: &mut Tally) -> Result<()> {
     for entry in block {
         let found = match entry.key {
-            "runs" => header_text(Rebalancing::Own),
-            "guests" => guests_header_text(Rebalancing::Own),
-            "swept-runs" => header_text(Rebalancing::Swept),
-            _ => guests_header_text(Rebalancing::Swept),
+            "runs" => header_text(rt.alloc(), Rebalancing::Own, &[])?,
+            "guests" => guests_header_text(rt.alloc(), Rebalancing::Own, &[])?,
+            "swept-runs" => header_text(rt.alloc(), Rebalancing::Swept, &[])?,
+            _ => guests_header_text(rt.alloc(), Rebalancing::Swept, &[])?,
         };
-        tally.note(rt, entry.number, check_line(found, entry.value))?;
+        tally.note(rt, entry.number, check_line(found.as_str(), entry.value))?;
     }
     Ok(())
 }

@@ -11,7 +11,7 @@ use vm_log::{PlanError, plan_log};
 use vm_series::{Series, collect_series, csv_text, svg_text};
 use vm_sim::{Open, RunError, Watched, run};
 use vm_steer::{Form, SteerError, steer};
-use vm_sweep::{Lists, Progress, sweep};
+use vm_sweep::{Lists, Progress, SweepError, sweep};
 
 // The report of a text, put into a digest.
 fn report<RT: Threads + Sync>(
@@ -80,6 +80,14 @@ impl Progress for Silent {
     fn report(&self, _told: usize, _all: usize) {}
 }
 
+// No list is for a guest.
+fn run_error_of_sweep(error: SweepError) -> RunError {
+    match error {
+        SweepError::Run(error) => error,
+        SweepError::Guest(_) => RunError::Read,
+    }
+}
+
 /// The table of a draft under lists of values, put into a digest.
 pub fn sweep_of<RT: Threads + Sync>(
     rt: &RT,
@@ -103,6 +111,7 @@ pub fn sweep_of<RT: Threads + Sync>(
         &Silent,
         &mut writer,
     )
+    .map_err(run_error_of_sweep)
 }
 
 // Of a made log no line is refused, and some page is touched.

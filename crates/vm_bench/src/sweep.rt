@@ -56,6 +56,6 @@ pub fn sweep<RT: Threads + Sync>(
         epochs: 100 / part.max(1) + 1,
     };
     let frames = frames_in(alloc, FRAMES)?;
-    let lists = Lists::new(Some(frames), None, None, None, None);
+    let lists = Lists::new(alloc, Some(frames), None, None, None, None);
     sweep_of(rt, alloc, WORKERS, &machine, &draft, &lists, digest)
 }

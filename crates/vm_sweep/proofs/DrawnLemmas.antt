@@ -6,13 +6,12 @@ use Rattle.std.proofs.lemmas.List.{map-append, take_all}
 use Rattle.vm_config.specs.declared.config.Config.{Config}
 use Rattle.vm_drawing.specs.Picture.{svg_of}
 use Rattle.vm_guest.specs.Record.{saturated}
-use Rattle.vm_sweep.specs.Combinations.{ValueLists, combinations, rebalancing_of}
+use Rattle.vm_sweep.specs.Combinations.{ValueLists, rebalancing_of, variants}
 use Rattle.vm_sweep.specs.Drawn.{curves_of, drawing_of, runs_of, swept_of}
 use Rattle.vm_sweep.specs.SweepDrawing.{sweep_drawing}
 use Rattle.vm_sweep.specs.Orders.{order_of}
 use Rattle.vm_sweep.specs.declared.outcome.Detail.TheVariants.{Run}
 use Rattle.vm_sweep.specs.declared.runs.SweptRun.{SweptRun}
-use Rattle.vm_tally.specs.Combinations.{values_of}
 use Rattle.vm_tally.specs.declared.table.Rebalancing.{Rebalancing}
 
 -- the runs of a round come behind those before it
@@ -40,11 +39,11 @@ same-drawing rebalancing page runs n few =
 -- the drawing of all runs
 pub drawn-all : (lists : ValueLists) (config : Config) (rebalancing : Rebalancing) (page : ℕ) (runs : List SweptRun) (curves : ℕ)
     → rebalancing ≡ rebalancing_of lists → page ≡ config.machine.page
-    → runs ≡ map swept_of (map (order_of (Run rebalancing) config) (combinations lists (values_of config)))
+    → runs ≡ map swept_of (map (order_of (Run rebalancing) config) (variants lists config))
     → curves ≡ saturated (curves_of lists) → length runs < 2 ^ 63 → svg_of (sweep_drawing rebalancing page runs curves) ≡ drawing_of lists config
 unfolding drawing_of
 drawn-all lists config rebalancing page runs curves swept stands are is few =
     let all : runs ≡ runs_of lists config =
-    are ∙ (λ i. map swept_of (map (order_of (Run (swept i)) config) (combinations lists (values_of config)))) in
+    are ∙ (λ i. map swept_of (map (order_of (Run (swept i)) config) (variants lists config))) in
     ap (λ (n : ℕ). svg_of (sweep_drawing rebalancing page runs n)) is ∙ ap svg_of (same-drawing rebalancing page runs (curves_of lists) few)
     ∙ (λ i. svg_of (sweep_drawing (swept i) (stands i) (all i) (curves_of lists)))

@@ -1,5 +1,7 @@
 pub mod DrawnLemmas
+pub mod JobLemmas
 pub mod RoundLemmas
+pub mod ShapeLemmas
 pub mod SpreadLemmas
 pub mod TableLemmas
 pub mod WrittenLemmas

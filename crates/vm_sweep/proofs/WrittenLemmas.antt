@@ -8,7 +8,23 @@ use Rattle.vm_sim.specs.declared.run_error.RunError.{RunError}
 use Rattle.vm_sim.specs.declared.run_error.RunError.TheVariants.{Config, Read, Write, Memory, Workers}
 use Rattle.vm_streams.specs.Streams.{AppendsFront}
 use Rattle.vm_streams.proofs.StreamLemmas.{Appends-then, Appends-then_front, AppendsFront-longer}
+use Rattle.vm_config.specs.declared.config.Config.{Config as Configuration}
+use Rattle.vm_sweep.specs.Combinations.{numbers_of}
+use Rattle.vm_sweep.specs.Outcomes.{Tells, rebalancing_in}
+use Rattle.vm_sweep.specs.Table.{record_for}
 use Rattle.vm_sweep.specs.Written.{FailsWithin, HasTold, WritesFirst}
+use Rattle.vm_sweep.specs.declared.outcome.Detail.{Detail}
+use Rattle.vm_sweep.specs.declared.outcome.Detail.TheVariants.{Run, EachGuest}
+use Rattle.vm_sweep.specs.declared.outcome.Outcome.TheVariants.{InNumbers}
+use Rattle.vm_sweep.specs.declared.variant.Variant.{Variant}
+use Rattle.vm_tally.specs.Table.{record_text}
+use Rattle.vm_tally.specs.declared.summary.Summary.{Summary}
+
+-- the record of a run that is told in numbers
+pub told-numbers : (detail : Detail) (v : Variant) (config : Configuration) (summary : Summary) → Tells detail v config (InNumbers summary)
+    → record_text (rebalancing_in detail) v.combination (numbers_of v) summary ≡ record_for detail v config
+told-numbers (Run from) v config summary is = ap (λ (s : Summary). record_text from v.combination (numbers_of v) s) is
+told-numbers (EachGuest from) v config summary is = absurd is
 
 appends-none : (x : Option (List ℕ)) → Appends x x []
 appends-none None = tt

@@ -9,12 +9,12 @@ use Rattle.vm_sim.specs.declared.run_error.RunError.{RunError}
 use Rattle.vm_sim.specs.declared.run_error.RunError.TheVariants.{Config, Read, Write, Memory, Workers}
 use Rattle.vm_sim.specs.Run.{MeansConfig}
 use Rattle.vm_streams.specs.Streams.{AppendsFront}
-use Rattle.vm_sweep.specs.Combinations.{ValueLists, combinations, rebalancing_of}
+use Rattle.vm_sweep.specs.Combinations.{ValueLists, rebalancing_of, varied, variants}
 use Rattle.vm_sweep.specs.Orders.{Order, order_of}
 use Rattle.vm_sweep.specs.declared.outcome.Detail.TheVariants.{Run}
 use Rattle.vm_sweep.specs.SweepDrawing.{sweep_drawing}
 use Rattle.vm_sweep.specs.declared.runs.SweptRun.{SweptRun}
-use Rattle.vm_tally.specs.Combinations.{Values, configured, values_of}
+use Rattle.vm_tally.specs.Combinations.{Values}
 use Rattle.vm_tally.specs.Summary.{summary_of}
 use Rattle.vm_tally.specs.declared.summary.Summary.{Summary}
 
@@ -32,7 +32,7 @@ swept_run values summary = record {
 
 -- what is drawn of a run that is wanted
 abbrev pub swept_of : Order → SweptRun
-swept_of order = swept_run order.values (summary_of (configured order.values order.base))
+swept_of order = swept_run order.variant.combination (summary_of (varied order.variant order.base))
 
 -- how many values a setting has in turn: one without a list keeps its own
 abbrev pub value_count : Option (List ℕ) → ℕ
@@ -43,15 +43,23 @@ value_count (Some values) = length values
 abbrev pub curves_of : ValueLists → ℕ
 curves_of lists = value_count lists.swap * value_count lists.tax * value_count lists.page_rate * value_count lists.rebalance
 
--- the runs of all combinations, in order
+-- all runs, in order
 abbrev pub runs_of : ValueLists → Configuration → List SweptRun
-runs_of lists config = map swept_of (map (order_of (Run (rebalancing_of lists)) config) (combinations lists (values_of config)))
+runs_of lists config = map swept_of (map (order_of (Run (rebalancing_of lists)) config) (variants lists config))
 
 -- the drawing of the sweep of a configuration
 unfoldable pub drawing_of : ValueLists → Configuration → List ℕ
 drawing_of lists config = svg_of (sweep_drawing (rebalancing_of lists) config.machine.page (runs_of lists config) (curves_of lists))
 
 module _ (old new : Option (List ℕ)) where
+  -- why this drawing was not written, or not all of it, and what was written by then
+  abbrev pub FailsToDraw : (drawing : List ℕ) → RunError → Type 0
+  FailsToDraw drawing Workers = ⊥
+  FailsToDraw drawing Read = ⊥
+  FailsToDraw drawing (Config fault) = ⊥
+  FailsToDraw drawing Write = AppendsFront old new drawing
+  FailsToDraw drawing Memory = Keeps old new
+
   -- why there is no drawing, or not all of it, and what was written by then
   abbrev pub FailsOnDrawing : ValueLists → List ℕ → RunError → Type 0
   FailsOnDrawing lists text Workers = ⊥

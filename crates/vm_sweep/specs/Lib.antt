@@ -1,4 +1,5 @@
 pub mod Combinations
+pub mod Refusals
 pub mod Drawn
 pub mod Orders
 pub mod Outcomes

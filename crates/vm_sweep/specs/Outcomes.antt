@@ -6,8 +6,9 @@ use Rattle.vm_sweep.specs.declared.outcome.Detail.{Detail}
 use Rattle.vm_sweep.specs.declared.outcome.Detail.TheVariants.{Run, EachGuest}
 use Rattle.vm_sweep.specs.declared.outcome.Outcome.{Outcome}
 use Rattle.vm_sweep.specs.declared.outcome.Outcome.TheVariants.{InNumbers, AsRecords}
+use Rattle.vm_sweep.specs.Combinations.{numbers_of}
+use Rattle.vm_sweep.specs.declared.variant.Variant.{Variant}
 use Rattle.vm_tally.specs.declared.table.Rebalancing.{Rebalancing}
-use Rattle.vm_tally.specs.Combinations.{Values}
 use Rattle.vm_tally.specs.GuestSummary.{guest_summaries_of}
 use Rattle.vm_tally.specs.GuestTable.{guest_records}
 use Rattle.vm_tally.specs.Summary.{summary_of}
@@ -17,12 +18,13 @@ abbrev pub rebalancing_in : Detail → Rebalancing
 rebalancing_in (Run rebalancing) = rebalancing
 rebalancing_in (EachGuest rebalancing) = rebalancing
 
--- the records of the guests of the run of a configuration, each with the name of its guest, behind these values
-abbrev pub guest_records_of : Rebalancing → Values → Config → List ℕ
-guest_records_of rebalancing values config = guest_records rebalancing values (names_of config.domains) (guest_summaries_of config)
+-- the records of the guests of the run of a configuration that has this in the place of its own, each with the name of its guest
+abbrev pub guest_records_of : Rebalancing → Variant → Config → List ℕ
+guest_records_of rebalancing v config =
+    guest_records rebalancing v.combination (numbers_of v) (names_of config.domains) (guest_summaries_of config)
 
--- this is told of the run of a configuration
-abbrev pub Tells : Detail → Values → Config → Outcome → Type 0
-Tells (Run rebalancing) values config (InNumbers summary) = summary ≡ summary_of config
-Tells (EachGuest rebalancing) values config (AsRecords text) = string_bytes text ≡ guest_records_of rebalancing values config
-Tells _ values config _ = ⊥
+-- this is told of that run
+abbrev pub Tells : Detail → Variant → Config → Outcome → Type 0
+Tells (Run rebalancing) variant config (InNumbers summary) = summary ≡ summary_of config
+Tells (EachGuest rebalancing) variant config (AsRecords text) = string_bytes text ≡ guest_records_of rebalancing variant config
+Tells _ variant config _ = ⊥

@@ -2,33 +2,32 @@
 use Rattle.std.specs.Prelude.{ℕ, List, ◌∷◌, map}
 use Rattle.std.specs.List.{concat}
 use Rattle.vm_config.specs.declared.config.Config.{Config}
-use Rattle.vm_sweep.specs.Combinations.{ValueLists, combinations, rebalancing_of}
+use Rattle.vm_sweep.specs.Combinations.{ValueLists, headings, numbers_of, rebalancing_of, varied, variants}
 use Rattle.vm_sweep.specs.Orders.{Order, order_of}
 use Rattle.vm_sweep.specs.Outcomes.{guest_records_of}
 use Rattle.vm_sweep.specs.declared.outcome.Detail.{Detail}
 use Rattle.vm_sweep.specs.declared.outcome.Detail.TheVariants.{Run, EachGuest}
-use Rattle.vm_tally.specs.Combinations.{Values, configured, values_of}
+use Rattle.vm_sweep.specs.declared.variant.Variant.{Variant}
 use Rattle.vm_tally.specs.GuestTable.{guests_header}
 use Rattle.vm_tally.specs.Summary.{summary_of}
 use Rattle.vm_tally.specs.Table.{header, record_text}
 
-abbrev pub header_for : Detail → List ℕ
-header_for (Run rebalancing) = header rebalancing
-header_for (EachGuest rebalancing) = guests_header rebalancing
+abbrev pub header_for : Detail → ValueLists → List ℕ
+header_for (Run rebalancing) lists = header rebalancing (headings lists)
+header_for (EachGuest rebalancing) lists = guests_header rebalancing (headings lists)
 
--- the record of the run of a configuration, or those of its guests, behind these values
-abbrev pub record_for : Detail → Values → Config → List ℕ
-record_for (Run rebalancing) values config = record_text rebalancing values (summary_of config)
-record_for (EachGuest rebalancing) values config = guest_records_of rebalancing values config
+-- the record of the run of a configuration that has this in the place of its own, or those of its guests
+abbrev pub record_for : Detail → Variant → Config → List ℕ
+record_for (Run rebalancing) v config = record_text rebalancing v.combination (numbers_of v) (summary_of config)
+record_for (EachGuest rebalancing) v config = guest_records_of rebalancing v config
 
 -- the same of a run that is wanted
 abbrev pub record_of : Order → List ℕ
-record_of order = record_for order.detail order.values (configured order.values order.base)
+record_of order = record_for order.detail order.variant (varied order.variant order.base)
 
--- the header, and what is written of each combination's run, in order
+-- the header, and what is written of each run, in order
 abbrev pub rows_for : Detail → ValueLists → Config → List (List ℕ)
-rows_for detail lists config =
-    header_for detail ∷ map record_of (map (order_of detail config) (combinations lists (values_of config)))
+rows_for detail lists config = header_for detail lists ∷ map record_of (map (order_of detail config) (variants lists config))
 
 -- ---- the table: a record for each run
 

@@ -1,5 +1,5 @@
 -- What a sweep that goes on, or stops early, has written.
-use Rattle.std.specs.Prelude.{◌≡◌, ◌⊎◌, ℕ, List, ◌++◌, Option, Err}
+use Rattle.std.specs.Prelude.{◌≡◌, ◌⊎◌, ℕ, List, ◌++◌, Option, Err, ⊤}
 use Rattle.std.specs.List.{concat}
 use Rattle.std.specs.Io.KnownBytes.{Appends, Keeps}
 use Rattle.vm_config.specs.declared.config.Config.{Config as Configuration}
@@ -8,6 +8,12 @@ use Rattle.vm_sim.specs.declared.run_error.RunError.{RunError}
 use Rattle.vm_sim.specs.declared.run_error.RunError.TheVariants.{Config, Read, Write, Memory, Workers}
 use Rattle.vm_sim.specs.Run.{MeansConfig}
 use Rattle.vm_streams.specs.Streams.{AppendsFront}
+
+-- why the configuration that a text is was not read
+abbrev pub FailsOnRead : (text : List ℕ) → RunError → Type 0
+FailsOnRead text (Config fault) = config_of text ≡ Err fault
+FailsOnRead text Memory = ⊤
+FailsOnRead text _ = ⊥
 
 module _ (old new : Option (List ℕ)) where
   -- the rows but those that are left were written, whole and in order, and nothing else

@@ -1,24 +1,28 @@
 //! A sweep as a drawing: what a host pages and whom it lets wait on each machine.
 ghost use Rattle.std.specs.Prelude.{◌≡◌, ◌<◌, ◌≤◌, ◌++◌, Err, IfErr, IfOk, IfSome, OnOk, length, map, vec_len};
-ghost use Rattle.std.specs.Io.KnownBytes.{Appends};
+ghost use Rattle.std.specs.Io.KnownBytes.{Appends, Keeps};
 ghost use Rattle.std.specs.Vec.Iter.{into_iter_items, into_iter_len};
 ghost use Rattle.vm_sim.specs.declared.run_error.RunError.TheVariants.{Write};
 ghost use Rattle.vm_sim.specs.Run.{MeansConfig};
 ghost use Rattle.vm_streams.specs.Streams.{NewlyFailed};
-ghost use Rattle.vm_sweep.specs.Drawn.{FailsOnDrawing, drawing_of, swept_of};
+ghost use Rattle.vm_sweep.specs.Drawn.{FailsOnDrawing, FailsToDraw, drawing_of, swept_of};
+ghost use Rattle.vm_sweep.specs.Refusals.{IsAccepted, StopsFor};
 ghost use Rattle.vm_sweep.specs.Rounds.{IsUnderWay};
 
 use crate::charts::sweep_svg;
-use crate::job::{RunDone, RunJob, Workplace};
+use crate::errors::SweepError;
+use crate::job::{RunDone, RunJob};
 use crate::lists::Lists;
 use crate::outcome::{Detail, Outcome};
 use crate::progress::Progress;
+use crate::reading::read_for;
 use crate::rounds::{prepare, run_next};
 use crate::runs::SweptRun;
+use crate::workplace::Workplace;
 use std::alloc::{AllocError, Global};
 use std::thread::Threads;
 use std::vec::IntoIter;
-use vm_config::{Config, read_config};
+use vm_config::Config;
 use vm_sim::RunError;
 use vm_streams::{Sink, write_text};
 
@@ -26,7 +30,7 @@ use vm_streams::{Sink, write_text};
 fn swept_of(done: &RunDone) -> Option<SweptRun>
     ensures { IfSome result (λ run. run ≡ swept_of done.now) }
 {
-    let values = done.combination();
+    let values = done.variant().combination;
     let Some(Outcome::InNumbers(summary)) = done.outcome() else {
         return None;
     };
@@ -103,6 +107,26 @@ fn drawing_of<RT: Threads + Sync, P: Progress>(
     sweep_svg(alloc, rebalancing, page, &runs, lists.curve_count())
 }
 
+// Writes it.
+fn write_drawing<RT: Threads + Sync, W: Sink, P: Progress>(
+    rt: &RT,
+    alloc: Global,
+    config: Config,
+    lists: &Lists,
+    workers: u32,
+    progress: &P,
+    writer: &mut W,
+) -> Result<(), RunError>
+    requires { (0 < workers) × (workers ≤ 64) }
+    ensures done { OnOk result (Appends (W.contents writer.old) (W.contents writer.new) (drawing_of lists.now config)) }
+    ensures failed { IfErr result (FailsToDraw (W.contents writer.old) (W.contents writer.new) (drawing_of lists.now config)) }
+    ensures writer_failed { NewlyFailed (W.has_failed writer.old) (W.has_failed writer.new) → result ≡ Err Write }
+{
+    let drawing = drawing_of(rt, alloc, config, lists, workers, progress)?;
+    write_text(writer, &drawing)?;
+    Ok(())
+}
+
 /// Runs the configuration that a text is once for each combination of values, as [`sweep`](crate::sweep) does, and draws the sweep as
 /// [`sweep_svg`] draws it: what a host pages and whom it lets wait on each machine, with a curve for each combination of swap, tax,
 /// page rate and rebalance.
@@ -113,6 +137,7 @@ fn drawing_of<RT: Threads + Sync, P: Progress>(
 /// | Answer | Cause | What was written |
 /// |---|---|---|
 /// | [`RunError::Config`] | the text is no configuration | nothing |
+/// | [`SweepError::Guest`] | the configuration refuses a list for a guest | nothing |
 /// | [`RunError::Write`] | a write failed | a front of the drawing |
 /// | [`RunError::Memory`] | memory was refused | nothing |
 pub fn draw_sweep<RT: Threads + Sync, W: Sink, P: Progress>(
@@ -123,15 +148,18 @@ pub fn draw_sweep<RT: Threads + Sync, W: Sink, P: Progress>(
     workers: u32,
     progress: &P,
     writer: &mut W,
-) -> Result<(), RunError>
+) -> Result<(), SweepError>
     requires { (0 < workers) × (workers ≤ 64) }
     ensures done { OnOk result (MeansConfig (λ config. Appends (W.contents writer.old) (W.contents writer.new)
         (drawing_of lists.now config)) text.now) }
-    ensures failed { IfErr result (FailsOnDrawing (W.contents writer.old) (W.contents writer.new) lists.now text.now) }
-    ensures writer_failed { NewlyFailed (W.has_failed writer.old) (W.has_failed writer.new) → result ≡ Err Write }
+    ensures accepted { OnOk result (IsAccepted lists.now text.now) }
+    ensures failed { IfErr result (StopsFor (Keeps (W.contents writer.old) (W.contents writer.new))
+        (FailsOnDrawing (W.contents writer.old) (W.contents writer.new) lists.now text.now) lists.now text.now) }
+    ensures writer_failed { NewlyFailed (W.has_failed writer.old) (W.has_failed writer.new) → result ≡ Err (SweepError.Run Write) }
 {
-    let config = read_config(alloc, text)?;
-    let drawing = drawing_of(rt, alloc, config, lists, workers, progress)?;
-    write_text(writer, &drawing)?;
-    Ok(())
+    let config = read_for(alloc, text, lists)?;
+    match write_drawing(rt, alloc, config, lists, workers, progress, writer) {
+        Ok(()) => Ok(()),
+        Err(error) => Err(SweepError::Run(error)),
+    }
 }

@@ -1,23 +1,28 @@
 //! Runs as jobs on threads, each thread with a configuration.
-ghost use Rattle.std.specs.Prelude.{◌≡◌, IfSome};
+ghost use Rattle.std.specs.Prelude.{◌≡◌, ◌+◌, ◌%◌, ◌^◌, IfSome};
 ghost use Rattle.vm_config.specs.declared.config.Config.{Config as Configuration};
-ghost use Rattle.vm_sweep.specs.Orders.{IsVaried};
+ghost use Rattle.vm_sweep.specs.Combinations.{varied};
+ghost use Rattle.vm_sweep.specs.Orders.{IsVaried, Shape, shape_of};
 ghost use Rattle.vm_sweep.specs.Outcomes.{Tells};
-ghost use Rattle.vm_tally.specs.Combinations.{configured};
+ghost use Rattle.vm_sweep.specs.Rounds.{CanRun};
+ghost use Rattle.vm_variants.specs.Changes.{changed};
 
 use crate::outcome::{Detail, Outcome, run_told};
 use crate::small_blocks::SmallBlocks;
 use crate::task::Task;
+use crate::variant::{Variant, added_of};
+use crate::workplace::Workplace;
 use std::alloc::Global;
 use std::marker::Model;
 use std::snapshot::Snapshot;
 use vm_config::Config;
-use vm_tally::Combination;
+use vm_variants::{add_to_seeds, law_runs, law_seeds};
 
-/// A run that is wanted. To a contract it is its values, the configuration whose own they take the place of, and what is told of it.
+/// A run that is wanted. To a contract it is what it has in the place of the configuration's own, that configuration, and what is told
+/// of it.
 #[derive(Drop)]
 pub(crate) struct RunJob {
-    combination: Combination,
+    variant: Variant,
     detail: Detail,
     base: Snapshot<Config>,
 }
@@ -27,18 +32,18 @@ impl Model for RunJob {
 
     ghost Value = { Order };
 
-    ghost view = { λ j. record { base = j.base.value; values = j.combination; detail = j.detail } };
+    ghost view = { λ j. record { base = j.base.value; variant = j.variant; detail = j.detail } };
 }
 
 impl RunJob {
-    /// A run of this configuration, with these values in the place of its own.
-    pub(crate) fn new(detail: Detail, combination: Combination, base: &Config) -> Self
+    /// A run of this configuration, with this in the place of its own.
+    pub(crate) fn new(detail: Detail, variant: Variant, base: &Config) -> Self
         ensures base { result.base ≡ base.now }
-        ensures values { result.values ≡ combination }
+        ensures variant { result.variant ≡ variant }
         ensures detail { result.detail ≡ detail }
     {
         RunJob {
-            combination,
+            variant,
             detail,
             base: Snapshot::of(base),
         }
@@ -49,7 +54,7 @@ impl RunJob {
 /// keeps that what is told is of that.
 #[derive(Drop)]
 pub(crate) struct RunDone {
-    combination: Combination,
+    variant: Variant,
     detail: Detail,
     base: Snapshot<Config>,
     outcome: Option<Outcome>,
@@ -57,23 +62,23 @@ pub(crate) struct RunDone {
 
 impl Model for RunDone {
     ghost use Rattle.std.specs.Prelude.{◌≡◌, IfSome};
+    ghost use Rattle.vm_sweep.specs.Combinations.{varied};
     ghost use Rattle.vm_sweep.specs.Orders.{Order};
     ghost use Rattle.vm_sweep.specs.Outcomes.{Tells};
-    ghost use Rattle.vm_tally.specs.Combinations.{configured};
 
     ghost Value = { Order };
 
-    ghost view = { λ d. record { base = d.base.value; values = d.combination; detail = d.detail } };
+    ghost view = { λ d. record { base = d.base.value; variant = d.variant; detail = d.detail } };
 
-    ghost invariant = { λ d. IfSome d.outcome (Tells d.detail d.combination (configured d.combination d.base.value)) };
+    ghost invariant = { λ d. IfSome d.outcome (Tells d.detail d.variant (varied d.variant d.base.value)) };
 }
 
 impl RunDone {
-    /// The values of the run.
-    pub(crate) fn combination(&self) -> Combination
-        ensures { result ≡ self.now.values }
+    /// What the run had in the place of the configuration's own.
+    pub(crate) fn variant(&self) -> &Variant
+        ensures { result.now ≡ self.now.variant }
     {
-        self.combination
+        &self.variant
     }
 
     /// How much is told of it.
@@ -85,34 +90,59 @@ impl RunDone {
 
     /// What is told of it, unless memory was refused.
     pub(crate) fn outcome(&self) -> Option<&Outcome>
-        ensures { IfSome result (λ outcome. Tells self.now.detail self.now.values
-            (configured self.now.values self.now.base) outcome.now) }
+        ensures { IfSome result (λ outcome. Tells self.now.detail self.now.variant
+            (varied self.now.variant self.now.base) outcome.now) }
     {
         self.outcome.as_ref()
     }
 }
 
-/// What a thread has for its runs: a configuration, until memory is refused in a run.
-#[derive(Drop)]
-pub(crate) struct Workplace {
-    pub(crate) alloc: Global,
-    pub(crate) config: Option<Config>,
+// The configuration with what a run has in the place of its own. Before any run it was seen that no value is refused.
+#[tactic(auto, unfolding(crate::specs::Combinations::varied))]
+fn vary(alloc: Global, variant: &Variant, mut config: Config) -> Option<Config>
+    ensures { IfSome result (λ made. made ≡ varied variant.now config) }
+{
+    variant.combination.apply(&mut config);
+    match variant.changes.apply(alloc, &mut config) {
+        Ok(()) => Some(config),
+        Err(_) => None,
+    }
 }
 
-// Runs the configuration of a thread with these values.
-fn run_in(place: &mut Workplace, detail: Detail, combination: &Combination) -> Option<Outcome>
-    ensures told { (base : Configuration) → IfSome place.old.config (IsVaried base)
-        → IfSome result (Tells detail combination.now (configured combination.now base)) }
-    ensures kept { (base : Configuration) → IfSome place.old.config (IsVaried base) → IfSome place.new.config (IsVaried base) }
+// What is to be added to a seed after this, so that it is as it was.
+fn negated(added: u64) -> u64
+    ensures { (result + added) % 2 ^ 64 ≡ 0 }
 {
-    let mut config = place.config.take()?;
-    combination.apply(&mut config);
+    0u64.wrapping_sub(added)
+}
+
+// Takes back what a run added to seeds, so that the next one can add to them again.
+fn take_back(alloc: Global, variant: &Variant, config: &mut Config)
+    ensures { (before : Configuration) → config.old ≡ changed variant.now.changes before
+        → config.new ≡ changed (record variant.now.changes { added = 0 }) before }
+{
+    law_seeds();
+    add_to_seeds(alloc, config, negated(added_of(&variant.changes)));
+}
+
+// Runs the configuration of a thread with this in the place of its own.
+fn run_in(place: &mut Workplace, detail: Detail, variant: &Variant) -> Option<Outcome>
+    ensures told { (base : Configuration) → CanRun base (shape_of variant.now.changes) place.old
+        → IfSome result (Tells detail variant.now (varied variant.now base)) }
+    ensures kept { (base other : Configuration) (alike : Shape) → CanRun base (shape_of variant.now.changes) place.old
+        → CanRun other alike place.old → IfSome place.new.config (IsVaried other alike) }
+    ensures like { shape_of place.new.like ≡ shape_of place.old.like }
+{
+    law_runs();
+    let taken = place.config.take()?;
+    let config = vary(place.alloc, variant, taken)?;
     let blocks = SmallBlocks::take(place.alloc);
-    let ran = run_told(place.alloc, detail, combination, config);
+    let ran = run_told(place.alloc, detail, variant, config);
     blocks.replace_kept(place.alloc);
     match ran {
-        Ok((outcome, config)) => {
-            place.config = Some(config);
+        Ok((outcome, mut left)) => {
+            take_back(place.alloc, variant, &mut left);
+            place.config = Some(left);
             Some(outcome)
         }
         Err(_) => None,
@@ -120,26 +150,26 @@ fn run_in(place: &mut Workplace, detail: Detail, combination: &Combination) -> O
 }
 
 impl Task for RunJob {
-    ghost use Rattle.std.specs.Prelude.{IfSome};
-    ghost use Rattle.vm_sweep.specs.Orders.{IsVaried};
+    ghost use Rattle.vm_sweep.specs.Orders.{shape_of};
+    ghost use Rattle.vm_sweep.specs.Rounds.{CanRun};
 
     type Tool = Workplace;
 
     type Done = RunDone;
 
-    ghost serves = { λ place job. IfSome place.config (IsVaried job.base) };
+    ghost serves = { λ place job. CanRun job.base (shape_of job.variant.changes) place };
 
     ghost result_of = { λ job. job };
 
     fn run(self, place: &mut Workplace) -> RunDone {
         let RunJob {
-            combination,
+            variant,
             detail,
             base,
         } = self;
-        let outcome = run_in(place, detail, &combination);
+        let outcome = run_in(place, detail, &variant);
         RunDone {
-            combination,
+            variant,
             detail,
             base,
             outcome,

@@ -18,6 +18,8 @@
 
 mod charts;
 mod drawing;
+mod errors;
+mod headings;
 mod job;
 mod lane;
 mod law;
@@ -27,6 +29,8 @@ mod offer;
 mod outcome;
 mod placing;
 mod progress;
+mod reading;
+mod refusals;
 mod round;
 mod rounds;
 mod runs;
@@ -34,11 +38,14 @@ mod small_blocks;
 mod space;
 mod sweeping;
 mod task;
+mod variant;
+mod workplace;
 
 pub use charts::sweep_svg;
 pub use drawing::draw_sweep;
+pub use errors::{GuestRefusal, RefusalCause, SweepError};
 pub use law::{law_on_axis, law_stacked_sweep};
-pub use lists::Lists;
+pub use lists::{GuestList, Lists};
 pub use progress::Progress;
 pub use round::run_round_with;
 pub use runs::SweptRun;

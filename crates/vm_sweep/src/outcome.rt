@@ -1,12 +1,16 @@
 //! What is told of a run.
-ghost use Rattle.std.specs.Prelude.{◌≡◌, IfOk};
+ghost use Rattle.std.specs.Prelude.{◌≡◌, IfOk, string_bytes};
+ghost use Rattle.vm_sweep.specs.Combinations.{numbers_of};
 ghost use Rattle.vm_sweep.specs.Outcomes.{Tells, rebalancing_in};
+ghost use Rattle.vm_tally.specs.GuestTable.{guest_records};
 
-use std::alloc::Global;
+use crate::variant::Variant;
+use std::alloc::{AllocError, Global};
 use vm_config::Config;
 use vm_sim::RunError;
 use vm_tally::{
-    Combination, Rebalancing, Summary, guest_names, guest_records_text, run_alone, run_guests_alone,
+    GuestSummary, Names, Rebalancing, Summary, guest_names, guest_records_text, run_alone,
+    run_guests_alone,
 };
 
 /// How much is told of a run, and where the values of the rebalancing are from.
@@ -39,31 +43,53 @@ pub(crate) enum Outcome {
     AsRecords(String),
 }
 
-// Runs a configuration, and tells its run guest by guest, with these values.
+// The records of the guests of a run.
+fn guests_text(
+    alloc: Global,
+    rebalancing: Rebalancing,
+    variant: &Variant,
+    names: &Names,
+    summaries: &[GuestSummary],
+) -> Result<String, AllocError>
+    ensures { IfOk result (λ text. string_bytes text
+        ≡ guest_records rebalancing variant.now.combination (numbers_of variant.now) names.now summaries.now) }
+{
+    let numbers = variant.numbers(alloc)?;
+    guest_records_text(
+        alloc,
+        rebalancing,
+        &variant.combination,
+        &numbers,
+        names,
+        summaries,
+    )
+}
+
+// Runs a configuration, and tells its run guest by guest, with what it has in the place of its own.
 fn run_by_guests(
     alloc: Global,
     rebalancing: Rebalancing,
-    combination: &Combination,
+    variant: &Variant,
     mut config: Config,
 ) -> Result<(Outcome, Config), RunError>
-    ensures told { IfOk result (λ r. Tells (Detail.EachGuest rebalancing) combination.now config r.0) }
+    ensures told { IfOk result (λ r. Tells (Detail.EachGuest rebalancing) variant.now config r.0) }
     ensures back { IfOk result (λ r. r.1 ≡ config) }
 {
     let names = guest_names(alloc, &mut config)?;
     let (summaries, config) = run_guests_alone(alloc, config)?;
-    let records = guest_records_text(alloc, rebalancing, combination, &names, &summaries)?;
+    let records = guests_text(alloc, rebalancing, variant, &names, &summaries)?;
     Ok((Outcome::AsRecords(records), config))
 }
 
-/// Runs a configuration that has these values to its end in the caller's thread. It comes back; where memory is refused, which is the
+/// Runs a configuration that has this in the place of its own to its end in the caller's thread. It comes back; where memory is refused, which is the
 /// only error, it is gone.
 pub(crate) fn run_told(
     alloc: Global,
     detail: Detail,
-    combination: &Combination,
+    variant: &Variant,
     config: Config,
 ) -> Result<(Outcome, Config), RunError>
-    ensures told { IfOk result (λ r. Tells detail combination.now config r.0) }
+    ensures told { IfOk result (λ r. Tells detail variant.now config r.0) }
     ensures back { IfOk result (λ r. r.1 ≡ config) }
 {
     match detail {
@@ -71,6 +97,6 @@ pub(crate) fn run_told(
             let (summary, config) = run_alone(alloc, config)?;
             Ok((Outcome::InNumbers(summary), config))
         }
-        Detail::EachGuest(rebalancing) => run_by_guests(alloc, rebalancing, combination, config),
+        Detail::EachGuest(rebalancing) => run_by_guests(alloc, rebalancing, variant, config),
     }
 }

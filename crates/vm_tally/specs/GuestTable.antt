@@ -6,15 +6,19 @@ use Rattle.vm_tally.specs.Combinations.{Values}
 use Rattle.vm_tally.specs.declared.guest_summary.GuestSummary.{GuestSummary}
 use Rattle.vm_tally.specs.declared.table.Rebalancing.{Rebalancing}
 use Rattle.vm_tally.specs.declared.table.Rebalancing.TheVariants.{Own, Swept}
-use Rattle.vm_tally.specs.Table.{combination_text, end_of_record, field, number_field, swept_field}
+use Rattle.vm_tally.specs.Table.{end_of_record, field, number_field, setting_columns, swept_field, values_text}
 
-unfoldable pub guests_header : Rebalancing → List ℕ
-guests_header Own =
-    codes "frames,swap,tax,page_rate,guest,epochs,revoked,paged,evicted,granted,blocked,stalls,done,left,most_swapped,target,held,swapped,balloon"
+-- the columns of what came of a run for a guest, and the end
+unfoldable pub guest_columns : Rebalancing → List ℕ
+guest_columns Own =
+    codes ",guest,epochs,revoked,paged,evicted,granted,blocked,stalls,done,left,most_swapped,target,held,swapped,balloon" ++ end_of_record
+guest_columns Swept =
+    codes ",guest,epochs,revoked,paged,evicted,granted,rebalanced,blocked,stalls,done,left,most_swapped,target,held,swapped,balloon"
     ++ end_of_record
-guests_header Swept =
-    codes "frames,swap,tax,page_rate,rebalance,guest,epochs,revoked,paged,evicted,granted,rebalanced,blocked,stalls,done,left,most_swapped,target,held,swapped,balloon"
-    ++ end_of_record
+
+-- the header, with further columns as in that of runs
+unfoldable pub guests_header : Rebalancing → (headings : List (List ℕ)) → List ℕ
+guests_header rebalancing headings = setting_columns rebalancing ++ (flat_map field headings ++ guest_columns rebalancing)
 
 -- a number, or an empty field
 abbrev pub optional_field : Option ℕ → List ℕ
@@ -39,17 +43,17 @@ guest_fields rebalancing s =
     ++ (swept_field rebalancing s.rebalanced ++ flat_map optional_field (numbers_from_blocked s))
 
 -- the record of a guest; its name is as it is, since no name of a guest needs quotes
-unfoldable pub guest_record : Rebalancing → Values → (name : List ℕ) → GuestSummary → List ℕ
-guest_record rebalancing c name s = combination_text rebalancing c ++ (field name ++ (guest_fields rebalancing s ++ end_of_record))
+unfoldable pub guest_record : Rebalancing → Values → (further name : List ℕ) → GuestSummary → List ℕ
+guest_record rebalancing c further name s = values_text rebalancing c further ++ (field name ++ (guest_fields rebalancing s ++ end_of_record))
 
 -- the name at a position
 abbrev pub name_at : List (List ℕ) → ℕ → List ℕ
 name_at names position = unwrap_or (slice_get names position) []
 
 -- the record of the guest at a position
-abbrev pub record_at : Rebalancing → Values → (names : List (List ℕ)) → ℕ × GuestSummary → List ℕ
-record_at rebalancing c names told = guest_record rebalancing c (name_at names told.0) told.1
+abbrev pub record_at : Rebalancing → Values → (further : List ℕ) → (names : List (List ℕ)) → ℕ × GuestSummary → List ℕ
+record_at rebalancing c further names told = guest_record rebalancing c further (name_at names told.0) told.1
 
 -- the records of a run, one for each of what is told of its guests, in order
-abbrev pub guest_records : Rebalancing → Values → (names : List (List ℕ)) → List GuestSummary → List ℕ
-guest_records rebalancing c names summaries = flat_map (record_at rebalancing c names) (enumerate_from 0 summaries)
+abbrev pub guest_records : Rebalancing → Values → (further : List ℕ) → (names : List (List ℕ)) → List GuestSummary → List ℕ
+guest_records rebalancing c further names summaries = flat_map (record_at rebalancing c further names) (enumerate_from 0 summaries)

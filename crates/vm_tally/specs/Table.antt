@@ -18,14 +18,24 @@ field text = codes "," ++ text
 abbrev pub end_of_record : List ℕ
 end_of_record = 13 ∷ 10 ∷ []
 
--- a column of rebalancing is there only where the runs have values of it from a list
-unfoldable pub header : Rebalancing → List ℕ
-header Own =
-    codes "frames,swap,tax,page_rate,high,soft,hard,low,least_free,no_memory,no_swap,revoked,paged,evicted,granted,blocked,stalls,done,left,most_swapped,swapped,balloon,fits"
+-- the columns of what a run has in the place of the configuration's own; that of rebalancing is there only where the runs have values of
+-- it from a list
+unfoldable pub setting_columns : Rebalancing → List ℕ
+setting_columns Own = codes "frames,swap,tax,page_rate"
+setting_columns Swept = codes "frames,swap,tax,page_rate,rebalance"
+
+-- those of what came of it, and the end
+unfoldable pub run_columns : Rebalancing → List ℕ
+run_columns Own =
+    codes ",high,soft,hard,low,least_free,no_memory,no_swap,revoked,paged,evicted,granted,blocked,stalls,done,left,most_swapped,swapped,balloon,fits"
     ++ end_of_record
-header Swept =
-    codes "frames,swap,tax,page_rate,rebalance,high,soft,hard,low,least_free,no_memory,no_swap,revoked,paged,evicted,granted,rebalanced,blocked,stalls,done,left,most_swapped,swapped,balloon,fits"
+run_columns Swept =
+    codes ",high,soft,hard,low,least_free,no_memory,no_swap,revoked,paged,evicted,granted,rebalanced,blocked,stalls,done,left,most_swapped,swapped,balloon,fits"
     ++ end_of_record
+
+-- the header; further columns stand behind those of the settings, under these headings
+unfoldable pub header : Rebalancing → (headings : List (List ℕ)) → List ℕ
+header rebalancing headings = setting_columns rebalancing ++ (flat_map field headings ++ run_columns rebalancing)
 
 abbrev pub number_field : ℕ → List ℕ
 number_field number = field (decimal number)
@@ -41,6 +51,10 @@ combination_text rebalancing c =
     decimal c.frames ++ (field (decimal c.swap) ++ (field (shown Hundredths c.tax) ++ (field (decimal c.page_rate)
     ++ swept_field rebalancing c.rebalance)))
 
+-- the values of a run, with a number for each further column
+unfoldable pub values_text : Rebalancing → Values → (further : List ℕ) → List ℕ
+values_text rebalancing c further = combination_text rebalancing c ++ flat_map number_field further
+
 -- the numbers up to what boundaries gave
 abbrev pub numbers_to_granted : Summary → List ℕ
 numbers_to_granted s =
@@ -55,7 +69,7 @@ yes_or_no true = codes "yes"
 yes_or_no false = codes "no"
 
 -- the record of a run
-unfoldable pub record_text : Rebalancing → Values → Summary → List ℕ
-record_text rebalancing c s =
-    combination_text rebalancing c ++ (flat_map number_field (numbers_to_granted s) ++ (swept_field rebalancing s.rebalanced
+unfoldable pub record_text : Rebalancing → Values → (further : List ℕ) → Summary → List ℕ
+record_text rebalancing c further s =
+    values_text rebalancing c further ++ (flat_map number_field (numbers_to_granted s) ++ (swept_field rebalancing s.rebalanced
     ++ (flat_map number_field (numbers_from_blocked s) ++ (field (yes_or_no (fits s)) ++ end_of_record))))

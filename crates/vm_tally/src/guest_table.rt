@@ -1,32 +1,44 @@
 //! The table of a sweep guest by guest, as comma-separated values.
-ghost use Rattle.std.specs.Prelude.{◌≡◌, ◌++◌, ◌∷◌, [], IfOk, OnOk, string_bytes};
+ghost use Rattle.std.specs.Prelude.{◌≡◌, ◌++◌, ◌∷◌, [], IfOk, OnOk, map, string_bytes};
 ghost use Rattle.std.specs.List.{flat_map};
 ghost use Rattle.std.specs.Option.{option_map};
 ghost use Rattle.vm_domains.specs.Domains.{names_of};
-ghost use Rattle.vm_tally.specs.GuestTable.{guest_fields, guest_records, guests_header, name_at, numbers_from_blocked, numbers_to_granted, optional_field};
-ghost use Rattle.vm_tally.specs.Table.{combination_text, end_of_record, field};
+ghost use Rattle.vm_tally.specs.GuestTable.{guest_columns, guest_fields, guest_records, guests_header, name_at, numbers_from_blocked, numbers_to_granted, optional_field};
+ghost use Rattle.vm_tally.specs.Table.{end_of_record, field, values_text};
 
 use crate::combination::Combination;
 use crate::guest_summary::{AtEnd, GuestSummary};
-use crate::table::{Rebalancing, combination_text, push_numbers, push_swept};
+use crate::table::{Rebalancing, columns_text, push_numbers, push_swept, values_text};
 use std::alloc::{AllocError, Global};
 use std::mem;
 use vm_config::Config;
 use vm_domains::{Domains, Names};
 
-/// The header of the table, with the end of its record.
-#[tactic(auto, unfolding(crate::specs::GuestTable::guests_header))]
-pub fn guests_header_text(rebalancing: Rebalancing) -> &'static str
-    ensures { result.now ≡ guests_header rebalancing }
+// The columns of what came of a run for a guest, and the end.
+#[tactic(auto, unfolding(crate::specs::GuestTable::guest_columns))]
+fn guest_columns(rebalancing: Rebalancing) -> &'static str
+    ensures { result.now ≡ guest_columns rebalancing }
 {
     match rebalancing {
         Rebalancing::Own => {
-            "frames,swap,tax,page_rate,guest,epochs,revoked,paged,evicted,granted,blocked,stalls,done,left,most_swapped,target,held,swapped,balloon\r\n"
+            ",guest,epochs,revoked,paged,evicted,granted,blocked,stalls,done,left,most_swapped,target,held,swapped,balloon\r\n"
         }
         Rebalancing::Swept => {
-            "frames,swap,tax,page_rate,rebalance,guest,epochs,revoked,paged,evicted,granted,rebalanced,blocked,stalls,done,left,most_swapped,target,held,swapped,balloon\r\n"
+            ",guest,epochs,revoked,paged,evicted,granted,rebalanced,blocked,stalls,done,left,most_swapped,target,held,swapped,balloon\r\n"
         }
     }
+}
+
+/// The header of the table, with the end of its record. Further columns stand behind those of the settings, as in the header of runs.
+#[tactic(auto, unfolding(crate::specs::GuestTable::guests_header))]
+pub fn guests_header_text(
+    alloc: Global,
+    rebalancing: Rebalancing,
+    headings: &[String],
+) -> Result<String, AllocError>
+    ensures { IfOk result (λ text. string_bytes text ≡ guests_header rebalancing (map string_bytes headings.now)) }
+{
+    columns_text(alloc, rebalancing, headings, guest_columns(rebalancing))
 }
 
 /// The names of the guests of a configuration, in order, for [`guest_records_text`]. The configuration stays as it is.
@@ -142,18 +154,19 @@ fn name_at(names: &Names, position: usize) -> &str
     names.get(position).unwrap_or("")
 }
 
-/// The records of a run, one for each guest, in order, each with its end. The names are those of the configuration that was run, as
+/// The records of a run, one for each guest, in order, each with its end and a number for each further column. The names are those of the configuration that was run, as
 /// [`guest_names`] gives them. None of them needs quotes.
 pub fn guest_records_text(
     alloc: Global,
     rebalancing: Rebalancing,
     combination: &Combination,
+    further: &[u64],
     names: &Names,
     summaries: &[GuestSummary],
 ) -> Result<String, AllocError>
-    ensures { IfOk result (λ text. string_bytes text ≡ guest_records rebalancing combination.now names.now summaries.now) }
+    ensures { IfOk result (λ text. string_bytes text ≡ guest_records rebalancing combination.now further.now names.now summaries.now) }
 {
-    let front = combination_text(alloc, rebalancing, combination)?;
+    let front = values_text(alloc, rebalancing, combination, further)?;
     let mut text = String::new(alloc);
     for (position, summary) in summaries.iter().enumerate() {
         let name = name_at(names, position);

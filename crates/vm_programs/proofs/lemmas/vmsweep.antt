@@ -1,4 +1,5 @@
 pub mod Range
+pub mod Refusals
 pub mod Reading
 pub mod Status
 pub mod Read

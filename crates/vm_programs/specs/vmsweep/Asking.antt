@@ -1,5 +1,5 @@
 -- The lists of values that words ask for.
-use Rattle.std.specs.Prelude.{◌≡◌, List, Ok}
+use Rattle.std.specs.Prelude.{◌≡◌, List, [], Ok, None}
 use Rattle.clap.specs.Words.{Text}
 use Rattle.vm_sweep.specs.Combinations.{ValueLists}
 use Rattle.vm_programs.specs.vmsweep.CommandLine.{rows_of}
@@ -13,6 +13,10 @@ value_lists lists = record {
   tax = lists.tax;
   page_rate = lists.page_rate;
   rebalance = lists.rebalance;
+  min_percent = None;
+  minimums = [];
+  shares = [];
+  seeds = None;
 }
 
 -- the words ask for these lists

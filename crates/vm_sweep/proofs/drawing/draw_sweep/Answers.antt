@@ -1,48 +1,50 @@
-use Rattle.std.proofs.Common.{◌≡◌, ◌∙◌, ℕ, List, Option, Some, None, Result, Ok, Err, IfErr, inl, inr, refl, rules, subst, sym}
-use Rattle.std.specs.Io.KnownBytes.{Appends, Keeps}
-use Rattle.vm_config.specs.declared.config.Config.{Config}
+use Rattle.std.proofs.Common.{◌≡◌, ℕ, List, Option, Result, Ok, Err, IfErr, rules}
+use Rattle.std.specs.Io.KnownBytes.{Keeps}
+use Rattle.std.specs.Prelude.{⊤}
+use Rattle.vm_config.specs.declared.config.Config.{Config as Configuration}
 use Rattle.vm_config.specs.Reading.{config_of}
 use Rattle.vm_sim.specs.declared.run_error.RunError.{RunError}
-use Rattle.vm_sim.specs.declared.run_error.RunError.TheVariants.{Write, Memory}
-use Rattle.vm_sim.specs.Run.{MeansConfig}
-use Rattle.vm_streams.specs.Streams.{AppendsFront}
+use Rattle.vm_sim.specs.declared.run_error.RunError.TheVariants.{Config, Read, Write, Memory, Workers}
 use Rattle.vm_sweep.specs.Combinations.{ValueLists}
-use Rattle.vm_sweep.specs.Drawn.{FailsOnDrawing, drawing_of}
-use Rattle.vm_sweep.proofs.TableLemmas.{was-read}
+use Rattle.vm_sweep.specs.Drawn.{FailsOnDrawing, FailsToDraw, drawing_of}
+use Rattle.vm_sweep.specs.Refusals.{StopsFor}
+use Rattle.vm_sweep.specs.Written.{FailsOnRead}
+use Rattle.vm_sweep.specs.declared.errors.SweepError.{SweepError}
+use Rattle.vm_sweep.specs.declared.errors.SweepError.TheVariants.{Guest, Run}
+use Rattle.vm_sweep.proofs.TableLemmas.{keeps}
 use Rattle.vm_sweep.proofs.drawing.draw_sweep.Goals as goal
 
-keeps : (x : Option (List ℕ)) → Keeps x x
-keeps None = tt
-keeps (Some bytes) = refl
+read-fails : (x : Option (List ℕ)) (lists : ValueLists) (text : List ℕ) (e : RunError) → FailsOnRead text e → FailsOnDrawing x x lists text e
+read-fails x lists text Workers why = why
+read-fails x lists text Read why = why
+read-fails x lists text (Config fault) why = (keeps x, why)
+read-fails x lists text Write why = absurd why
+read-fails x lists text Memory why = keeps x
 
-memory-fails : {T : Type 0} (result : Result T RunError) → IfErr result (λ e. e ≡ Memory) → (x : Option (List ℕ)) (lists : ValueLists) (text : List ℕ)
-    → IfErr result (FailsOnDrawing x x lists text)
-memory-fails (Ok value) is x lists text = tt
-memory-fails (Err e) is x lists text = subst (FailsOnDrawing x x lists text) (sym is) (keeps x)
+not-read : {T : Type 0} (x : Option (List ℕ)) (lists : ValueLists) (text : List ℕ) (result : Result T SweepError)
+    → IfErr result (StopsFor ⊤ (FailsOnRead text) lists text) → IfErr result (StopsFor (Keeps x x) (FailsOnDrawing x x lists text) lists text)
+not-read x lists text (Ok value) why = tt
+not-read x lists text (Err (Run e)) why = read-fails x lists text e why
+not-read x lists text (Err (Guest refusal)) why = (keeps x, why.1)
 
-write-fails : {T : Type 0} (result : Result T RunError) → IfErr result (λ e. e ≡ Write) → (x y : Option (List ℕ)) (lists : ValueLists) (text : List ℕ)
-    → MeansConfig (λ config. AppendsFront x y (drawing_of lists config)) text → IfErr result (FailsOnDrawing x y lists text)
-write-fails (Ok value) is x y lists text front = tt
-write-fails (Err e) is x y lists text front = subst (FailsOnDrawing x y lists text) (sym is) front
+draws-not : (x y : Option (List ℕ)) (lists : ValueLists) (text : List ℕ) (config : Configuration) → config_of text ≡ Ok config → (e : RunError)
+    → FailsToDraw x y (drawing_of lists config) e → FailsOnDrawing x y lists text e
+draws-not x y lists text config is Workers why = why
+draws-not x y lists text config is Read why = why
+draws-not x y lists text config is (Config fault) why = absurd why
+draws-not x y lists text config is Write why = (config, is, why)
+draws-not x y lists text config is Memory why = why
 
-pub returns-in_err-drawing-clause-failed : goal.returns-in_err-drawing-clause-failed
-returns-in_err-drawing-clause-failed g c =
-    memory-fails c.from_residual-in_err-drawing.result (search rules) (g.W.Sink.contents c.args.writer.now) c.args.lists.now c.args.text.now
+pub returns-in_err-config-clause-failed : goal.returns-in_err-config-clause-failed
+returns-in_err-config-clause-failed g c =
+    not-read (g.W.Sink.contents c.args.writer.now) c.args.lists.now c.args.text.now c.from_residual.result (search rules)
 
-pub returns-in_err-write_text-clause-failed : goal.returns-in_err-write_text-clause-failed
-returns-in_err-write_text-clause-failed g c =
-    let old = g.W.Sink.contents c.args.writer.now in
-    let new = g.W.Sink.contents c.write_text.new.writer in
-    write-fails c.from_residual-in_err-write_text.result (search rules) old new c.args.lists.now c.args.text.now (
-      c.in_ok-config.config,
-      was-read c.in_ok-config.config c.args.text.now c.in_ok-config.ensures.config,
-      subst (AppendsFront old new) (c.deref.ensures.value ∙ c.in_ok-drawing.ensures) c.in_err-write_text.ensures.front,
-    )
+pub returns-in-Ok-clause-done : goal.returns-in-Ok-clause-done
+returns-in-Ok-clause-done g c = (c.in_ok-config.config, c.in_ok-config.ensures.config, c.in-Ok.ensures.done)
 
-pub returns-clause-done : goal.returns-clause-done
-returns-clause-done g c = (
-  c.in_ok-config.config,
-  was-read c.in_ok-config.config c.args.text.now c.in_ok-config.ensures.config,
-  subst (Appends (g.W.Sink.contents c.args.writer.now) (g.W.Sink.contents c.write_text.new.writer)) (c.deref.ensures.value ∙ c.in_ok-drawing.ensures)
-      c.in_ok-write_text.ensures.written,
-)
+pub returns-in-Ok-clause-accepted : goal.returns-in-Ok-clause-accepted
+returns-in-Ok-clause-accepted g c = (c.in_ok-config.config, c.in_ok-config.ensures.config, c.in_ok-config.ensures.accepted)
+
+pub returns-in-Err-clause-failed : goal.returns-in-Err-clause-failed
+returns-in-Err-clause-failed g c =
+    draws-not _ _ c.args.lists.now c.args.text.now c.in_ok-config.config c.in_ok-config.ensures.config c.in-Err.error c.in-Err.ensures.failed

@@ -1,19 +1,26 @@
-use Rattle.std.proofs.Common.{◌≡◌, ◌∙◌, Option, IfSome, Some, ap, subst, sym}
+use Rattle.std.proofs.Common.{◌≡◌, ◌∙◌, refl, subst, sym}
 use Rattle.vm_config.specs.declared.config.Config.{Config}
-use Rattle.vm_tally.specs.Combinations.{configured}
-use Rattle.vm_sweep.specs.Orders.{IsVaried}
+use Rattle.vm_sweep.specs.Combinations.{varied}
+use Rattle.vm_sweep.specs.Orders.{IsVaried, Shape, shape_of}
 use Rattle.vm_sweep.specs.Outcomes.{Tells}
+use Rattle.vm_sweep.proofs.JobLemmas.{taken, varied-next}
 use Rattle.vm_sweep.proofs.job.run_in.Goals as goal
 
-varied-there : (old taken : Option Config) (config base : Config) → taken ≡ old → taken ≡ Some config → IfSome old (IsVaried base) → IsVaried base config
-varied-there old taken config base same is varied = subst (λ (o : Option Config). IfSome o (IsVaried base)) (sym same ∙ is) varied
-
 pub returns-in-Ok-clause-told : goal.returns-in-Ok-clause-told
-returns-in-Ok-clause-told c = λ base ready.
-    let varied = varied-there _ _ _ base c.take.ensures.value c.in_ok-config.was ready in
-    subst (λ (there : Config). Tells c.args.detail c.args.combination.now there c.in-Ok.outcome) (c.apply.ensures ∙ varied c.args.combination.now) c.in-Ok.ensures.told
+unfolding varied
+returns-in-Ok-clause-told c = λ base can.
+    let variant = c.args.variant.now in
+    let there = taken (IsVaried base (shape_of variant.changes)) _ _ c.in_ok-taken.taken c.take.ensures.value c.in_ok-taken.was can.config in
+    subst (λ (config : Config). Tells c.args.detail variant config c.in-Ok.outcome)
+    (c.in_ok-config.ensures ∙ there variant.combination variant.changes refl) c.in-Ok.ensures.told
 
 pub returns-in-Ok-clause-kept : goal.returns-in-Ok-clause-kept
-returns-in-Ok-clause-kept c = λ base ready v.
-    let varied = varied-there _ _ _ base c.take.ensures.value c.in_ok-config.was ready in
-    ap (configured v) (c.in-Ok.ensures.back ∙ c.apply.ensures) ∙ varied v
+unfolding varied
+returns-in-Ok-clause-kept c = λ base other alike can there.
+    let variant = c.args.variant.now in
+    let same : alike ≡ shape_of variant.changes = sym there.shape ∙ can.shape in
+    let before = taken (IsVaried other alike) _ _ c.in_ok-taken.taken c.take.ensures.value c.in_ok-taken.was there.config in
+    subst (λ (shape : Shape). IsVaried other shape c.take_back.new.config) (sym same)
+    (varied-next c.law_runs.ensures.next other c.in_ok-taken.taken c.take_back.new.config variant.combination variant.changes
+    (c.take_back.ensures _ (c.in-Ok.ensures.back ∙ c.in_ok-config.ensures))
+    (subst (λ (shape : Shape). IsVaried other shape c.in_ok-taken.taken) same before))

@@ -1,10 +1,10 @@
 use Rattle.std.proofs.Common.{map, rules}
-use Rattle.vm_tally.specs.Combinations.{with_value}
+use Rattle.vm_sweep.specs.Combinations.{with_looped}
 use Rattle.vm_sweep.proofs.SpreadLemmas.{drop-item, some-more}
 use Rattle.vm_sweep.proofs.lists.spread_over.Goals as goal
 
-pub loop-combination-preserved : goal.loop-combination-preserved
-loop-combination-preserved c =
-    some-more (λ v. map (λ n. with_value c.args.setting n v) c.args.values.now) c.args.before.now c.loop-combination.combination-index
-    c.combination-item.result _ _ _ (drop-item _ _ _ c.loop-combination-test.true c.combination-item.is) (search rules)
-    c.loop-combination.invariant
+pub loop-variant-preserved : goal.loop-variant-preserved
+loop-variant-preserved c =
+    some-more (λ v. map (λ n. with_looped c.args.what n v) c.args.values.now) c.args.before.now c.loop-variant.variant-index
+    c.variant-item.result _ _ _ (drop-item _ _ _ c.loop-variant-test.true c.variant-item.is) (search rules)
+    c.loop-variant.invariant

@@ -1,10 +1,8 @@
-use Rattle.std.proofs.Common.{◌≡◌, ◌++◌, map, drop}
-use Rattle.std.specs.List.{flat_map}
-use Rattle.vm_tally.specs.Combinations.{with_value}
+use Rattle.std.proofs.Common.{◌≡◌, ◌++◌, drop}
+use Rattle.vm_sweep.specs.Combinations.{spread_over}
 use Rattle.vm_sweep.proofs.lists.spread_over.Given as goal
 
--- with the combinations that are left it is the whole
-abbrev pub invariant-loop-combination : goal.invariant-loop-combination
-invariant-loop-combination l =
-    l.list.items ++ flat_map (λ v. map (λ n. with_value l.setting n v) l.values) (drop l.combination-index l.before)
-    ≡ flat_map (λ v. map (λ n. with_value l.setting n v) l.values) l.before
+-- with the variants that are left it is the whole
+abbrev pub invariant-loop-variant : goal.invariant-loop-variant
+invariant-loop-variant l =
+    l.list.items ++ spread_over l.what l.values (drop l.variant-index l.before) ≡ spread_over l.what l.values l.before

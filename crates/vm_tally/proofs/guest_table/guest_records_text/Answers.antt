@@ -1,7 +1,7 @@
 use Rattle.std.proofs.Common.{◌≡◌, None, ◌++◌, ◌∙◌, get_or, string_bytes}
 use Rattle.vm_tally.specs.declared.guest_summary.GuestSummary.{GuestSummary}
 use Rattle.vm_tally.specs.GuestTable.{guest_fields, guest_record, name_at, record_at}
-use Rattle.vm_tally.specs.Table.{combination_text, end_of_record, field}
+use Rattle.vm_tally.specs.Table.{end_of_record, field, values_text}
 use Rattle.vm_tally.proofs.GuestTextLemmas.{piece-more, pieces-end}
 use Rattle.vm_tally.proofs.guest_table.guest_records_text.Goals as goal
 
@@ -28,9 +28,9 @@ loop-position-preserved c =
     let i = c.loop-position.position in
     let old = string_bytes c.loop-position.text in
     let summary = get_or c.args.summaries.now i nothing in
-    let front : c.deref.result.now ≡ combination_text rebalancing c.args.combination.now = c.deref.ensures ∙ c.in_ok-front.ensures in
+    let front : c.deref.result.now ≡ values_text rebalancing c.args.combination.now c.args.further.now = c.deref.ensures ∙ c.in_ok-front.ensures in
     let name : c.name_at-name.result.now ≡ name_at c.args.names.now i = c.name_at-name.ensures in
-    piece-more (record_at rebalancing c.args.combination.now c.args.names.now) c.args.summaries.now i nothing old (string_bytes c.push_record.new.text) _
+    piece-more (record_at rebalancing c.args.combination.now c.args.further.now c.args.names.now) c.args.summaries.now i nothing old (string_bytes c.push_record.new.text) _
     c.loop-position-test.true
     (c.in_ok-push_record.ensures
     ∙ (λ t. old ++ (front t ++ (field (name t) ++ (guest_fields rebalancing summary ++ end_of_record)))))
@@ -38,5 +38,5 @@ loop-position-preserved c =
 
 pub returns : goal.returns
 returns c =
-    pieces-end (record_at c.args.rebalancing c.args.combination.now c.args.names.now) c.args.summaries.now c.loop-position.position (string_bytes c.loop-position.text) _
+    pieces-end (record_at c.args.rebalancing c.args.combination.now c.args.further.now c.args.names.now) c.args.summaries.now c.loop-position.position (string_bytes c.loop-position.text) _
     c.loop-position-test.false c.loop-position.invariant

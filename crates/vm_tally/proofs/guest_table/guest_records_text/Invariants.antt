@@ -6,5 +6,5 @@ use Rattle.vm_tally.proofs.guest_table.guest_records_text.Given as goal
 -- the records that are left complete the text
 abbrev pub invariant-loop-position : goal.invariant-loop-position
 invariant-loop-position l =
-    string_bytes l.text ++ flat_map (record_at l.rebalancing l.combination l.names) (enumerate_from l.position (drop l.position l.summaries))
-    ≡ guest_records l.rebalancing l.combination l.names l.summaries
+    string_bytes l.text ++ flat_map (record_at l.rebalancing l.combination l.further l.names) (enumerate_from l.position (drop l.position l.summaries))
+    ≡ guest_records l.rebalancing l.combination l.further l.names l.summaries

@@ -1,6 +1,7 @@
-use Rattle.std.proofs.Common.{refl}
+use Rattle.std.proofs.Common.{ap, refl}
 use Rattle.vm_config.specs.declared.settings.Setting.TheVariants as setting
 use Rattle.vm_programs.proofs.lemmas.vmsweep.Range.{in-range}
+use Rattle.vm_programs.proofs.lemmas.vmsweep.Refusals.{never-refused}
 use Rattle.vm_programs.specs.vmsweep.Keys.{limits_of}
 use Rattle.vm_programs.specs.declared.vmsweep.keys.SweptKey.TheVariants as key
 use Rattle.vm_programs.proofs.vmsweep.running.write_sweep.Goals as goal
@@ -24,3 +25,8 @@ new-lists-requires-clause-page_rate g c = in-range setting.PageRate (limits_of k
 pub new-lists-requires-clause-rebalance : goal.new-lists-requires-clause-rebalance
 unfolding limits_of
 new-lists-requires-clause-rebalance g c = in-range setting.Rebalance (limits_of key.Rebalance) refl refl _ c.requires.within.rebalance
+
+pub unreachable-requires : goal.unreachable-requires
+unreachable-requires g c =
+    never-refused _ _ _ _ _ _ (ap (λ l. l.minimums) c.new-lists.ensures) (ap (λ l. l.shares) c.new-lists.ensures) c.in-Err-Guest.field-0-is
+    c.in-Err-Guest.ensures.failed

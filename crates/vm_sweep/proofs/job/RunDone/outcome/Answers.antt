@@ -1,7 +1,7 @@
 use Rattle.std.proofs.Common.{◌≡◌, Bor, None, Option, Some, IfSome, option_copied, subst, sym}
+use Rattle.vm_sweep.specs.Combinations.{varied}
 use Rattle.vm_sweep.specs.Orders.{Order}
 use Rattle.vm_sweep.specs.Outcomes.{Tells}
-use Rattle.vm_tally.specs.Combinations.{configured}
 use Rattle.vm_sweep.proofs.job.RunDone.outcome.Goals as goal
 
 -- what is true of the value that is there is true of the one that is lent
@@ -11,5 +11,5 @@ lent {A = A} P (Some x) kept is there = subst (λ (o : Option A). IfSome o P) (s
 
 pub returns : goal.returns
 returns c =
-    lent (Tells c.args.self.now.detail c.args.self.now.values (configured c.args.self.now.values c.args.self.now.base)) c.as_ref.result _ c.as_ref.ensures.value
-    (subst (λ (o : Order). IfSome c.self.inside.outcome (Tells o.detail o.values (configured o.values o.base))) c.self.view_is c.self.invariant)
+    lent (Tells c.args.self.now.detail c.args.self.now.variant (varied c.args.self.now.variant c.args.self.now.base)) c.as_ref.result _ c.as_ref.ensures.value
+    (subst (λ (o : Order). IfSome c.self.inside.outcome (Tells o.detail o.variant (varied o.variant o.base))) c.self.view_is c.self.invariant)
