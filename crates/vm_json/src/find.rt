@@ -1,7 +1,7 @@
 // Looking into a value.
 ghost use Rattle.std.specs.Prelude.{◌≡◌, map, length, true, None, Some, is_some, option_map, option_and_then, unwrap_or, slice_get, IfSome};
 ghost use Rattle.serde_json.specs.Find.{as_array, as_bool, as_object, as_str, get};
-ghost use Rattle.json.specs.Find.{get_member};
+ghost use Rattle.json.specs.Find.{get as tree_get, get_member};
 ghost use Rattle.json.specs.Value.{items_of as tree_items_of};
 ghost use Rattle.vm_json.specs.Tree.{members_view, texts_view, value_view};
 ghost use Rattle.vm_json.specs.View.{begins_with_text, items_data, items_seen};
@@ -19,6 +19,16 @@ pub fn member<'v, 'a>(object: &'v Value<'a>, name: &str) -> Option<&'v Value<'a>
         last(members, name)
     } else {
         None
+    }
+}
+
+/// The same member, as it stands in the text: its own objects keep keys that come twice.
+pub fn last_member<'v, 'a>(object: &'v Value<'a>, name: &str) -> Option<&'v Value<'a>>
+    ensures { option_map (λ v. value_view v.now) result ≡ tree_get name.now (value_view object.now) }
+{
+    match object {
+        Value::Object(members) => last(members, name),
+        _ => None,
     }
 }
 

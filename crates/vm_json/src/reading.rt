@@ -29,6 +29,10 @@ pub fn read<'a>(
     scratch: &'a mut Scratch,
 ) -> Result<Value<'a>, ReadError>
     ensures ok { IfOk result (λ v. IsUtf8 bytes.now × (read_text bytes.now ≡ Some (view v))) }
+
+    // With each member where it stands in the text, also those of a key that comes twice.
+    ensures tree { IfOk result (λ v. json_of bytes.now ≡ Some (value_view v)) }
+
     ensures refused { result ≡ Err NotJson → IsUtf8 bytes.now → read_text bytes.now ≡ None }
     ensures memory { result ≡ Err Memory → 0 < length bytes.now }
 {
