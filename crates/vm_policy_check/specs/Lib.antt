@@ -1,0 +1,3 @@
+pub mod Findings
+pub mod KnownKeys
+pub mod Texts
