@@ -1,0 +1,8 @@
+use Rattle.vm_check.proofs.RangeLemmas.{tax_first, tax_later}
+use Rattle.vm_check.proofs.range.most_tax.Goals as goal
+
+pub returns-then-version-eq1 : goal.returns-then-version-eq1
+returns-then-version-eq1 c = tax_first c.args.version c.if-version-eq1.true
+
+pub returns-else-version-eq1 : goal.returns-else-version-eq1
+returns-else-version-eq1 c = tax_later c.args.version c.if-version-eq1.false
