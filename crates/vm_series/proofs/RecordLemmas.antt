@@ -13,7 +13,7 @@ use Rattle.vm_plan.specs.declared.state.State.TheVariants.{High, Soft, Hard, Low
 use Rattle.vm_plan.specs.State.{state_word}
 use Rattle.vm_series.specs.Csv.{csv_text, flag, guest_record, guest_records, header, lone_record, name_at, number_or_empty, records_at, records_of, records_of_view, records_text, rfc4180, view_in}
 use Rattle.vm_series.specs.Records.{comma_then, empty_text, epoch_text, head_text, name_text, piece_at, record_at, view_record, view_text}
-use Rattle.vm_series.specs.Rows.{Row, Rows}
+use Rattle.vm_series.specs.Rows.{Row, Rows, evicted_of}
 use Rattle.vm_series.proofs.CsvLemmas.{positions_more}
 
 -- ---- numbers, words and flags need no quotes
@@ -107,10 +107,13 @@ behind_head row field fields text rest =
 -- the fields behind a name, from their end
 module _ (g : GuestView) where
   behind_name : fields_text rfc4180 (decimal g.target ∷ decimal g.held ∷ decimal g.resident ∷ decimal g.swapped ∷ decimal g.balloon
-      ∷ decimal g.active ∷ decimal g.demand ∷ flag g.blocked ∷ number_or_empty g.stalled ∷ []) ++ end_text CRLF ≡ view_text g
+      ∷ decimal g.active ∷ decimal g.demand ∷ flag g.blocked ∷ number_or_empty g.stalled ∷ decimal (evicted_of g) ∷ decimal g.done ∷ [])
+      ++ end_text CRLF ≡ view_text g
   unfolding view_text
   behind_name =
-      let n = before (number_or_empty g.stalled) (number_or_empty g.stalled) [] (end_text CRLF) (end_text CRLF) (optional g.stalled) (none_before (end_text CRLF)) in
+      let x = before (decimal g.done) (decimal g.done) [] (end_text CRLF) (end_text CRLF) (number g.done) (none_before (end_text CRLF)) in
+      let e = before (decimal (evicted_of g)) (decimal (evicted_of g)) _ (end_text CRLF) _ (number (evicted_of g)) x in
+      let n = before (number_or_empty g.stalled) (number_or_empty g.stalled) _ (end_text CRLF) _ (optional g.stalled) e in
       let b = before (flag g.blocked) (flag g.blocked) _ (end_text CRLF) _ (flag_field g.blocked) n in
       let d = before (decimal g.demand) (decimal g.demand) _ (end_text CRLF) _ (number g.demand) b in
       let a = before (decimal g.active) (decimal g.active) _ (end_text CRLF) _ (number g.active) d in
@@ -133,8 +136,8 @@ empty_more fields text rest = before [] [] fields (end_text CRLF) text refl rest
 lone_is : (row : Row) → head_text row ++ empty_text ≡ row_text rfc4180 (lone_record row)
 unfolding lone_record empty_text
 lone_is row =
-    behind_head row [] _ _ (empty_more _ _ (empty_more _ _ (empty_more _ _ (empty_more _ _ (empty_more _ _ (empty_more _ _ (empty_more _ _
-    (empty_more _ _ (empty_more _ _ (empty_more [] (end_text CRLF) (none_before (end_text CRLF))))))))))))
+    behind_head row [] _ _ (empty_more _ _ (empty_more _ _ (empty_more _ _ (empty_more _ _ (empty_more _ _ (empty_more _ _ (empty_more _ _ (empty_more _ _ (empty_more _ _
+    (empty_more _ _ (empty_more _ _ (empty_more [] (end_text CRLF) (none_before (end_text CRLF))))))))))))))
 
 view_is : (row : Row) (name : List ℕ) (view : Option GuestView) → view_record (head_text row) (name_text name) view ≡ records_text (records_of_view row name view)
 view_is row name None = refl

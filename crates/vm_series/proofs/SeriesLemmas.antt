@@ -2,7 +2,7 @@
 use Rattle.std.proofs.Common.{◌≡◌, ℕ, ◌<◌, List, ◌∷◌, [], length, IfSome, arith, refl}
 use Rattle.vm_series.specs.declared.samples.Measure.TheVariants.{State}
 use Rattle.vm_series.specs.Samples.{samples}
-use Rattle.vm_series.specs.Series.{drawing_of, free_chart, page_chart, target_chart}
+use Rattle.vm_series.specs.Series.{drawing_of, evicted_chart, free_chart, page_chart, target_chart}
 use Rattle.vm_drawing.specs.Drawing.{Chart}
 use Rattle.vm_drawing.specs.Stacked.{Each, HasWords}
 use Rattle.vm_plan.specs.declared.state.State.{State as HostState}
@@ -25,5 +25,16 @@ no-words : (c : Chart) → length c.words ≡ 0 → HasWords c
 no-words c none = λ some. absurd (omega (arith, none, some))
 
 pub series-has_words : (s : Rows) → Each HasWords (drawing_of s).charts
-series-has_words s =
-    ((λ some. (states-below s.rows, tt)), (no-words (free_chart s.rows) refl, (no-words (target_chart s) refl, (no-words (page_chart s.rows) refl, tt))))
+series-has_words s = (
+  (λ some. (states-below s.rows, tt)),
+  (
+    no-words (free_chart s.rows) refl,
+    (
+      no-words (target_chart s) refl,
+      (
+        no-words (page_chart s.rows) refl,
+        (no-words (evicted_chart s) refl, tt),
+      ),
+    ),
+  ),
+)

@@ -8,7 +8,7 @@ use Rattle.csv.specs.declared.writer.WriterBuilder.{WriterBuilder}
 use Rattle.csv.specs.Writing.{default_writer, fields_written, has_written, row_text, with_terminator, writer_setup}
 use Rattle.vm_guest.specs.declared.view.GuestView.{GuestView}
 use Rattle.vm_plan.specs.State.{state_word}
-use Rattle.vm_series.specs.Rows.{Row, Rows}
+use Rattle.vm_series.specs.Rows.{Row, Rows, evicted_of}
 
 -- commas, quotes where a field needs them, and CRLF after each record (RFC 4180)
 abbrev pub rfc4180 : WriterBuilder
@@ -26,7 +26,8 @@ pub record IsAtRecord {W : Type 0} (w : Writer W) : Type 0 where
 unfoldable pub header : List (List ℕ)
 header =
     codes "epoch" ∷ codes "state" ∷ codes "free" ∷ codes "guest" ∷ codes "target" ∷ codes "held" ∷ codes "resident" ∷ codes "swapped"
-    ∷ codes "balloon" ∷ codes "active" ∷ codes "demand" ∷ codes "blocked" ∷ codes "stalled" ∷ []
+    ∷ codes "balloon" ∷ codes "active" ∷ codes "demand" ∷ codes "blocked" ∷ codes "stalled" ∷ codes "evicted"
+    ∷ codes "done" ∷ []
 
 abbrev pub flag : Bool → List ℕ
 flag true = codes "1"
@@ -41,12 +42,13 @@ number_or_empty None = []
 unfoldable pub guest_record : Row → List ℕ → GuestView → List (List ℕ)
 guest_record row name g =
     decimal row.epoch ∷ state_word row.state ∷ decimal row.free ∷ name ∷ decimal g.target ∷ decimal g.held ∷ decimal g.resident
-    ∷ decimal g.swapped ∷ decimal g.balloon ∷ decimal g.active ∷ decimal g.demand ∷ flag g.blocked ∷ number_or_empty g.stalled ∷ []
+    ∷ decimal g.swapped ∷ decimal g.balloon ∷ decimal g.active ∷ decimal g.demand ∷ flag g.blocked ∷ number_or_empty g.stalled
+    ∷ decimal (evicted_of g) ∷ decimal g.done ∷ []
 
 -- an epoch in which no guest runs: the fields of a guest are empty
 unfoldable pub lone_record : Row → List (List ℕ)
 lone_record row =
-    decimal row.epoch ∷ state_word row.state ∷ decimal row.free ∷ [] ∷ [] ∷ [] ∷ [] ∷ [] ∷ [] ∷ [] ∷ [] ∷ [] ∷ [] ∷ []
+    decimal row.epoch ∷ state_word row.state ∷ decimal row.free ∷ [] ∷ [] ∷ [] ∷ [] ∷ [] ∷ [] ∷ [] ∷ [] ∷ [] ∷ [] ∷ [] ∷ [] ∷ []
 
 -- ---- records
 

@@ -7,7 +7,7 @@ use Rattle.csv.specs.Writing.{comma, end_text, field_text}
 use Rattle.vm_guest.specs.declared.view.GuestView.{GuestView}
 use Rattle.vm_plan.specs.State.{state_word}
 use Rattle.vm_series.specs.Csv.{flag, number_or_empty, rfc4180, view_in}
-use Rattle.vm_series.specs.Rows.{Row}
+use Rattle.vm_series.specs.Rows.{Row, evicted_of}
 
 -- a field behind a comma, and what follows it
 abbrev pub comma_then : List ℕ → List ℕ → List ℕ
@@ -26,11 +26,12 @@ unfoldable pub view_text : GuestView → List ℕ
 view_text g =
     comma_then (decimal g.target) (comma_then (decimal g.held) (comma_then (decimal g.resident) (comma_then (decimal g.swapped)
     (comma_then (decimal g.balloon) (comma_then (decimal g.active) (comma_then (decimal g.demand) (comma_then (flag g.blocked)
-    (comma_then (number_or_empty g.stalled) (end_text CRLF)))))))))
+    (comma_then (number_or_empty g.stalled) (comma_then (decimal (evicted_of g)) (comma_then (decimal g.done)
+    (end_text CRLF)))))))))))
 
--- the ten fields of a guest, all empty, and the end
+-- the twelve fields of a guest, all empty, and the end
 unfoldable pub empty_text : List ℕ
-empty_text = comma ∷ comma ∷ comma ∷ comma ∷ comma ∷ comma ∷ comma ∷ comma ∷ comma ∷ comma ∷ end_text CRLF
+empty_text = comma ∷ comma ∷ comma ∷ comma ∷ comma ∷ comma ∷ comma ∷ comma ∷ comma ∷ comma ∷ comma ∷ comma ∷ end_text CRLF
 
 -- ---- put together
 

@@ -1,5 +1,5 @@
 -- The rows of a run: what is seen of its host after each epoch.
-use Rattle.std.specs.Prelude.{ℕ, suc, List, map, Option}
+use Rattle.std.specs.Prelude.{ℕ, suc, List, map, Option, if◌then◌else◌}
 use Rattle.std.specs.List.{range_with_len}
 use Rattle.std.specs.Option.{option_map}
 use Rattle.vm_config.specs.declared.config.Config.{Config}
@@ -36,6 +36,10 @@ row_of c k = row_of_host k (world_after c (suc k))
 -- the rows of the epochs before epoch k
 abbrev pub rows_before : Config → ℕ → List Row
 rows_before c k = map (row_of c) (range_with_len 0 k)
+
+-- the pages that touches of a guest sent to swap in its epoch, for want of a frame: its demand, where it wasn't blocked
+abbrev pub evicted_of : GuestView → ℕ
+evicted_of g = if g.blocked then 0 else g.demand
 
 pub record Rows : Type 0 where
   -- the machine's frames

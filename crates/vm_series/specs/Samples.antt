@@ -4,9 +4,9 @@ use Rattle.std.specs.Option.{option_map}
 use Rattle.vm_guest.specs.declared.view.GuestView.{GuestView}
 use Rattle.vm_plan.specs.State.{rank}
 use Rattle.vm_series.specs.Csv.{view_in}
-use Rattle.vm_series.specs.Rows.{Row}
+use Rattle.vm_series.specs.Rows.{Row, evicted_of}
 use Rattle.vm_series.specs.declared.samples.Measure.{Measure}
-use Rattle.vm_series.specs.declared.samples.Measure.TheVariants.{State, Free, Target, Total}
+use Rattle.vm_series.specs.declared.samples.Measure.TheVariants.{State, Free, Target, Total, Evicted}
 use Rattle.vm_series.specs.declared.samples.Pages.{Pages}
 use Rattle.vm_series.specs.declared.samples.Pages.TheVariants.{SwappedOut, Ballooned}
 
@@ -24,12 +24,13 @@ abbrev pub total : Pages → List (Option GuestView) → ℕ
 total pages [] = 0
 total pages (view ∷ views) = pages_in pages view + total pages views
 
--- what a measure is after an epoch; a guest that doesn't run has no target
+-- what a measure is after an epoch; a guest that doesn't run has no target, and evicts nothing that is told
 abbrev pub sample : Measure → Row → Option ℕ
 sample State row = Some (rank row.state)
 sample Free row = Some row.free
 sample (Target position) row = option_map (λ g. g.target) (view_in row position)
 sample (Total pages) row = Some (total pages row.views)
+sample (Evicted position) row = option_map evicted_of (view_in row position)
 
 -- one for each epoch
 abbrev pub samples : Measure → List Row → List (Option ℕ)

@@ -1,13 +1,13 @@
--- The drawing of a series: its state, its free frames, the targets of its guests, and the pages of all guests that are swapped out and
--- ballooned, each over the epochs.
-use Rattle.std.specs.Prelude.{ℕ, List, [], ◌∷◌, ◌++◌, codes, if◌then◌else◌, is_some, false, true, length}
+-- The drawing of a series: its state, its free frames, the targets of its guests, the pages of all guests that are swapped out and
+-- ballooned, and the pages that touches sent to swap, each over the epochs.
+use Rattle.std.specs.Prelude.{ℕ, List, [], ◌∷◌, ◌++◌, Bool, Option, Some, None, codes, if◌then◌else◌, is_some, false, true, length, nat_lt}
 use Rattle.std.specs.List.{flat_map, list_any, range_with_len}
 use Rattle.vm_plan.specs.declared.state.State.TheVariants.{Low, Hard, Soft, High}
 use Rattle.vm_plan.specs.State.{state_word}
 use Rattle.vm_series.specs.Csv.{name_at}
 use Rattle.vm_series.specs.Rows.{Row, Rows}
 use Rattle.vm_drawing.specs.declared.scale.Axis.{Axis}
-use Rattle.vm_series.specs.declared.samples.Measure.TheVariants.{State, Free, Target, Total}
+use Rattle.vm_series.specs.declared.samples.Measure.TheVariants.{State, Free, Target, Total, Evicted}
 use Rattle.vm_series.specs.declared.samples.Pages.TheVariants.{SwappedOut, Ballooned}
 use Rattle.vm_drawing.specs.Counts.{counted}
 use Rattle.vm_drawing.specs.Page.{page_words}
@@ -57,6 +57,25 @@ page_chart rows = record {
   is_keyed = true;
 }
 
+abbrev pub is_above_zero : Option ℕ → Bool
+is_above_zero (Some n) = nat_lt 0 n
+is_above_zero None = false
+
+-- a guest whose touches ever sent a page to swap has a curve
+abbrev pub evicted_curve : Rows → ℕ → List Curve
+evicted_curve s position =
+    if list_any is_above_zero (samples (Evicted position) s.rows)
+    then level_curve position (name_at s.names position) (samples (Evicted position) s.rows) ∷ [] else []
+
+abbrev pub evicted_chart : Rows → Chart
+evicted_chart s = record {
+  title = codes "5. Pages sent to swap by touches";
+  unit = codes "pages";
+  words = [];
+  curves = flat_map (evicted_curve s) (range_with_len 0 (length s.names));
+  is_keyed = true;
+}
+
 unfoldable pub note_of : Rows → List ℕ
 note_of s =
     counted (length s.rows) (codes "epoch") ++ (codes ", " ++ (counted (length s.names) (codes "guest") ++ (codes ", "
@@ -72,5 +91,6 @@ drawing_of s = record {
   note = note_of s;
   along = codes "epoch";
   axis = epoch_axis (length s.rows);
-  charts = state_chart s.rows ∷ free_chart s.rows ∷ target_chart s ∷ page_chart s.rows ∷ [];
+  charts = state_chart s.rows ∷ free_chart s.rows ∷ target_chart s ∷ page_chart s.rows
+      ∷ evicted_chart s ∷ [];
 }

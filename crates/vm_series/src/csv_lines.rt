@@ -37,6 +37,8 @@ fn write_header<W: Write + Drop>(writer: &mut Writer<W>) -> Result<(), Error>
         b"demand".as_slice(),
         b"blocked".as_slice(),
         b"stalled".as_slice(),
+        b"evicted".as_slice(),
+        b"done".as_slice(),
     ])
 }
 
@@ -151,7 +153,7 @@ fn push_lone(text: &mut Vec<u8>, head: &[u8]) -> Result<(), AllocError>
     ensures { OnOk result (text.new.items ≡ text.old.items ++ (head.now ++ empty_text)) }
 {
     text.extend_from_slice(head)?;
-    text.extend_from_slice(b",,,,,,,,,,\r\n")
+    text.extend_from_slice(b",,,,,,,,,,,,\r\n")
 }
 
 // An epoch.
@@ -199,6 +201,8 @@ fn push_rows(text: &mut Vec<u8>, pieces: &[Vec<u8>], rows: &[EpochRow]) -> Resul
 /// | `demand` | frames that it would use above its target |
 /// | `blocked` | 1 where it was blocked in this epoch, else 0 |
 /// | `stalled` | the page on which it stalled in this epoch, or nothing |
+/// | `evicted` | pages that its touches sent to swap in this epoch, for want of a frame: its demand, where it wasn't blocked, else 0 |
+/// | `done` | steps of its trace executed since it started |
 ///
 /// All of it is as it stands after the epoch. A page and a frame have 4096 bytes.
 pub fn csv_text(alloc: Global, series: &Series) -> Result<Vec<u8>, AllocError>

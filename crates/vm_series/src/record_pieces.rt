@@ -4,12 +4,12 @@ ghost use Rattle.std.specs.Fmt.{decimal};
 ghost use Rattle.vm_series.specs.Csv.{flag, number_or_empty};
 ghost use Rattle.vm_series.specs.Records.{comma_then, head_text, view_text};
 
-use crate::rows::EpochRow;
+use crate::rows::{EpochRow, evicted_of};
 use itoa::write_digits;
 use vm_host::GuestView;
 
-// Room for nine fields, each a comma and a number of at most twenty digits, and for the end.
-const ROOM: usize = 200;
+// Room for eleven fields, each a comma and a number of at most twenty digits, and for the end.
+const ROOM: usize = 240;
 
 // Puts a byte before a place, and returns where it stands.
 #[inline(always)]
@@ -93,7 +93,7 @@ pub(crate) const EMPTY_LINE: Line = [0; ROOM];
 // Puts what the records of an epoch have in common at the end of a line, and returns where it starts.
 #[tactic(auto, unfolding(crate::specs::Records::head_text))]
 pub(crate) fn put_head(line: &mut Line, row: &EpochRow) -> usize
-    ensures inside { result ≤ 200 }
+    ensures inside { result ≤ 240 }
     ensures written { drop result line.new ≡ head_text row.now }
 {
     let free = put_number(line, ROOM, u64::from(row.free()));
@@ -104,12 +104,14 @@ pub(crate) fn put_head(line: &mut Line, row: &EpochRow) -> usize
 // Puts what stands behind the name of a guest at the end of a line, and returns where it starts.
 #[tactic(auto, unfolding(crate::specs::Records::view_text))]
 pub(crate) fn put_view(line: &mut Line, view: &GuestView) -> usize
-    ensures inside { result ≤ 200 }
+    ensures inside { result ≤ 240 }
     ensures written { drop result line.new ≡ view_text view.now }
 {
     let line_feed = put_byte(line, ROOM, b'\n');
     let end = put_byte(line, line_feed, b'\r');
-    let stalled = put_optional(line, end, view.stalled);
+    let done = put_number(line, end, u64::from(view.done));
+    let evicted = put_number(line, done, evicted_of(view));
+    let stalled = put_optional(line, evicted, view.stalled);
     let blocked = put_flag(line, stalled, view.blocked);
     let demand = put_number(line, blocked, view.demand);
     let active = put_number(line, demand, u64::from(view.active));

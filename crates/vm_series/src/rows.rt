@@ -3,7 +3,7 @@ ghost use Rattle.std.specs.Prelude.{◌≡◌, ◌≤◌, length, map, is_some, 
 ghost use Rattle.std.specs.List.{list_any};
 ghost use Rattle.vm_host.specs.World.{World};
 ghost use Rattle.vm_sim.specs.Report.{positions};
-ghost use Rattle.vm_series.specs.Rows.{row_of_host, view_at};
+ghost use Rattle.vm_series.specs.Rows.{evicted_of, row_of_host, view_at};
 
 use std::alloc::{AllocError, Global};
 use std::marker::Model;
@@ -27,6 +27,13 @@ impl Model for EpochRow {
     ghost view = { λ r. record { epoch = r.epoch; state = r.state; free = r.free; views = r.views.items } };
 
     ghost invariant = { λ r. length r.views.items ≤ 256 };
+}
+
+// The pages that touches of a guest sent to swap in its epoch, for want of a frame. One that was blocked touched none.
+pub(crate) fn evicted_of(view: &GuestView) -> u64
+    ensures { result ≡ evicted_of view.now }
+{
+    if view.blocked { 0 } else { view.demand }
 }
 
 // What the host shows of the guests, by position.

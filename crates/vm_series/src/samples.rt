@@ -2,8 +2,9 @@
 ghost use Rattle.std.specs.Prelude.{◌≡◌, is_some, IfOk};
 ghost use Rattle.std.specs.List.{list_any};
 ghost use Rattle.vm_series.specs.Samples.{pages_in, pages_of, sample, samples, total};
+ghost use Rattle.vm_series.specs.Series.{is_above_zero};
 
-use crate::rows::EpochRow;
+use crate::rows::{EpochRow, evicted_of};
 use std::alloc::{AllocError, Global};
 use vm_host::GuestView;
 
@@ -25,6 +26,8 @@ pub(crate) enum Measure {
     Target(usize),
     // pages of all running guests
     Total(Pages),
+    // the pages that touches of the guest at a position sent to swap
+    Evicted(usize),
 }
 
 fn pages_of(pages: Pages, view: &GuestView) -> u32
@@ -66,6 +69,7 @@ pub(crate) fn sample(row: &EpochRow, measure: Measure) -> Option<u64>
         Measure::Free => Some(u64::from(row.free())),
         Measure::Target(position) => row.view(position).map(|view| u64::from(view.target)),
         Measure::Total(pages) => Some(total(pages, row)),
+        Measure::Evicted(position) => row.view(position).map(|view| evicted_of(&view)),
     }
 }
 
@@ -89,4 +93,20 @@ pub(crate) fn has_values(values: &[Option<u64>]) -> bool
     ensures { result ≡ list_any is_some values.now }
 {
     values.iter().any(|value| value.is_some())
+}
+
+fn is_above_zero(value: &Option<u64>) -> bool
+    ensures { result ≡ is_above_zero value.now }
+{
+    match value {
+        Some(number) => *number > 0,
+        None => false,
+    }
+}
+
+// Whether there is any but 0.
+pub(crate) fn has_more_than_zero(values: &[Option<u64>]) -> bool
+    ensures { result ≡ list_any is_above_zero values.now }
+{
+    values.iter().any(|value| is_above_zero(value))
 }

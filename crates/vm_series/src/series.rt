@@ -7,10 +7,10 @@ ghost use Rattle.vm_series.specs.Csv.{name_at};
 ghost use Rattle.vm_drawing.specs.Drawing.{level_curve};
 ghost use Rattle.vm_drawing.specs.Picture.{svg_of};
 ghost use Rattle.vm_series.specs.Samples.{samples};
-ghost use Rattle.vm_series.specs.Series.{drawing_of, epoch_axis, free_chart, note_of, page_chart, state_chart, target_chart, target_curve};
+ghost use Rattle.vm_series.specs.Series.{drawing_of, epoch_axis, evicted_chart, evicted_curve, free_chart, note_of, page_chart, state_chart, target_chart, target_curve};
 
 use crate::rows::{EpochRow, Series};
-use crate::samples::{Measure, Pages, has_values, samples};
+use crate::samples::{Measure, Pages, has_more_than_zero, has_values, samples};
 use std::alloc::{AllocError, Global};
 use vm_drawing::{Axis, Chart, Curve, Drawing, counted, draw, page_words};
 use vm_plan::State;
@@ -72,6 +72,19 @@ fn free_chart(alloc: Global, rows: &[EpochRow]) -> Result<Chart, AllocError>
     Ok(Chart::new(title, unit, Vec::new(alloc), curves, false))
 }
 
+// A curve of what is measured of the guest at a position.
+fn guest_curve(
+    alloc: Global,
+    series: &Series,
+    position: usize,
+    values: Vec<Option<u64>>,
+) -> Result<Curve, AllocError>
+    ensures { IfOk result (λ curve. curve ≡ level_curve position (name_at series.now.names position) values.items) }
+{
+    let name = String::from_str(alloc, name_at(series.names(), position))?;
+    Ok(Curve::level(position as u64, name, values))
+}
+
 // The curve of a guest, if it ever runs.
 fn push_target(
     alloc: Global,
@@ -85,8 +98,8 @@ fn push_target(
     if !has_values(values.as_slice()) {
         return Ok(());
     }
-    let name = String::from_str(alloc, name_at(series.names(), position))?;
-    curves.push(Curve::level(position as u64, name, values))?;
+    let curve = guest_curve(alloc, series, position, values)?;
+    curves.push(curve)?;
     Ok(())
 }
 
@@ -124,6 +137,44 @@ fn page_chart(alloc: Global, rows: &[EpochRow]) -> Result<Chart, AllocError>
     Ok(Chart::new(title, unit, Vec::new(alloc), curves, true))
 }
 
+// The curve of a guest, if its touches ever sent a page to swap.
+fn push_evicted(
+    alloc: Global,
+    curves: &mut Vec<Curve>,
+    series: &Series,
+    position: usize,
+) -> Result<(), AllocError>
+    ensures { OnOk result (curves.new.items ≡ curves.old.items ++ evicted_curve series.now position) }
+{
+    let values = samples(alloc, series.rows(), Measure::Evicted(position))?;
+    if !has_more_than_zero(values.as_slice()) {
+        return Ok(());
+    }
+    let curve = guest_curve(alloc, series, position, values)?;
+    curves.push(curve)?;
+    Ok(())
+}
+
+fn evicted_curves(alloc: Global, series: &Series) -> Result<Vec<Curve>, AllocError>
+    ensures { IfOk result (λ curves. curves.items
+        ≡ flat_map (evicted_curve series.now) (range_with_len 0 (length series.now.names))) }
+{
+    let mut curves = Vec::new(alloc);
+    for position in 0..series.names().len() {
+        push_evicted(alloc, &mut curves, series, position)?;
+    }
+    Ok(curves)
+}
+
+fn evicted_chart(alloc: Global, series: &Series) -> Result<Chart, AllocError>
+    ensures { IfOk result (λ chart. chart ≡ evicted_chart series.now) }
+{
+    let title = String::from_str(alloc, "5. Pages sent to swap by touches")?;
+    let unit = String::from_str(alloc, "pages")?;
+    let curves = evicted_curves(alloc, series)?;
+    Ok(Chart::new(title, unit, Vec::new(alloc), curves, true))
+}
+
 #[tactic(auto, unfolding(crate::specs::Series::note_of))]
 fn note_of(alloc: Global, series: &Series) -> Result<String, AllocError>
     ensures { IfOk result (λ note. string_bytes note ≡ note_of series.now) }
@@ -137,13 +188,14 @@ fn note_of(alloc: Global, series: &Series) -> Result<String, AllocError>
 
 fn charts_of(alloc: Global, series: &Series) -> Result<Vec<Chart>, AllocError>
     ensures { IfOk result (λ charts. charts.items ≡ state_chart series.now.rows ∷ free_chart series.now.rows
-        ∷ target_chart series.now ∷ page_chart series.now.rows ∷ []) }
+        ∷ target_chart series.now ∷ page_chart series.now.rows ∷ evicted_chart series.now ∷ []) }
 {
     let mut charts = Vec::new(alloc);
     charts.push(state_chart(alloc, series.rows())?)?;
     charts.push(free_chart(alloc, series.rows())?)?;
     charts.push(target_chart(alloc, series)?)?;
     charts.push(page_chart(alloc, series.rows())?)?;
+    charts.push(evicted_chart(alloc, series)?)?;
     Ok(charts)
 }
 
@@ -162,15 +214,17 @@ fn drawing_of(alloc: Global, series: &Series) -> Result<Drawing, AllocError>
     Ok(Drawing::new(title, note, along, axis, charts))
 }
 
-/// Four charts over the epochs, as [`draw`] draws them.
+/// Five charts over the epochs, as [`draw`] draws them.
 ///
 /// 1. The state of the host.
 /// 2. Its free frames.
 /// 3. The target of each guest that ever runs, in frames: a curve in the epochs in which it runs, with its number in the order of
 ///    the configuration, from 1.
 /// 4. The pages of all guests in the swap areas, and in the balloons.
+/// 5. The pages that touches of each guest sent to swap in each epoch, for want of a frame: a curve for each guest that ever sent one,
+///    as in 3.
 ///
-/// Epoch e of n goes from the place e to e + 1 of an axis from 0 to n. All is as it stands after the epoch. The note says
+/// Epoch e of n goes from the place e to e + 1 of an axis from 0 to n. All else is as it stands after the epoch. The note says
 /// what a page stands for.
 ///
 /// [`AllocError`] comes only where memory was refused.

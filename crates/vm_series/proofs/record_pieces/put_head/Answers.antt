@@ -6,7 +6,7 @@ use Rattle.vm_series.proofs.record_pieces.put_head.Goals as goal
 pub returns-clause-written : goal.returns-clause-written
 unfolding head_text
 returns-clause-written c =
-    let full = drop_all 200 c.args.line.now (omega arith) in
+    let full = drop_all 240 c.args.line.now (omega arith) in
     rw (
       c.put_digits.ensures.written,
       c.put_word-state.ensures.written,

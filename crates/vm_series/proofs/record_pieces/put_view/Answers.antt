@@ -6,7 +6,7 @@ use Rattle.vm_series.proofs.record_pieces.put_view.Goals as goal
 pub returns-clause-written : goal.returns-clause-written
 unfolding view_text
 returns-clause-written c =
-    let full = drop_all 200 c.args.line.now (omega arith) in
+    let full = drop_all 240 c.args.line.now (omega arith) in
     rw (
       c.put_number.ensures.written,
       c.put_number-held.ensures.written,
@@ -17,6 +17,8 @@ returns-clause-written c =
       c.put_number-demand.ensures.written,
       c.put_flag-blocked.ensures.written,
       c.put_optional-stalled.ensures.written,
+      c.put_number-evicted.ensures.written,
+      c.put_number-done.ensures.written,
       c.put_byte-end.ensures.written,
       c.put_byte-line_feed.ensures.written,
       full,
@@ -26,4 +28,6 @@ returns-clause-written c =
       c.from-4.ensures,
       c.from-5.ensures,
       c.from-6.ensures,
+      c.from-7.ensures,
+      c.evicted_of.ensures,
     )
