@@ -4,6 +4,7 @@ pub mod LineLemmas
 pub mod ColumnLemmas
 pub mod PieceLemmas
 pub mod MostLemmas
+pub mod EvictedLemmas
 pub mod NameLemmas
 pub mod TokenLemmas
 pub mod SafeLemmas

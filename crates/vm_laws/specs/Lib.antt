@@ -1,5 +1,6 @@
 pub mod ReportLines
 pub mod Columns
+pub mod Evicted
 pub mod Swapped
 pub mod Plain
 pub mod Meaning

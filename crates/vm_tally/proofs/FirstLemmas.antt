@@ -45,4 +45,6 @@ first_summary c =
       most_swapped = 0;
       swapped = none swapped_of i;
       balloon = none ballooned i;
+      most_evicted = 0;
+      worst = None;
     }

@@ -1,4 +1,5 @@
 pub mod SumLemmas
+pub mod WorstLemmas
 pub mod NextLemmas
 pub mod FirstLemmas
 pub mod EachLemmas

@@ -9,9 +9,10 @@ use Rattle.vm_sim.specs.Course.{after_boundary, boundary_at, course_of, ready_wo
 use Rattle.vm_tally.specs.declared.summary.Summary.{Summary}
 use Rattle.vm_tally.specs.Counting.{sum_over}
 use Rattle.vm_tally.specs.Counts.{executed_by, over_guests, swapped_of}
-use Rattle.vm_tally.specs.Summary.{after_in, blocked_in, done_in, evicted_in, granted_in, hard_in, high_in, low_in, no_memory_in, no_swap_in, paged_in, ready_in, rebalanced_in, revoked_in, soft_in, stalls_in, summary_after, told_in}
+use Rattle.vm_tally.specs.Summary.{after_in, blocked_in, done_in, evicted_in, granted_in, hard_in, high_in, low_in, no_memory_in, no_swap_in, paged_in, ready_in, rebalanced_in, revoked_in, sent_in, soft_in, stalls_in, summary_after, told_in}
 use Rattle.vm_tally.specs.Tally.{with_boundary, with_epoch}
 use Rattle.vm_tally.proofs.SumLemmas.{saturated_more}
+use Rattle.vm_tally.proofs.WorstLemmas.{worst_next}
 
 least_more : (a b c : ℕ) → min (min a b) c ≡ min a (min b c)
 least_more a b c = omega arith
@@ -23,7 +24,7 @@ pub sum_next : (number : ℕ → ℕ) (k : ℕ) → saturated (saturated (sum_ov
 sum_next number k = saturated_more (sum_over number k) (number k)
 
 pub summary_next : (course : Run) (k : ℕ)
-    → with_epoch (over_guests executed_by (ready_in course k)) (after_in course k)
+    → with_epoch k (over_guests executed_by (ready_in course k)) (after_in course k)
     (with_boundary (told_in course k) (ready_in course k) (summary_after course k))
     ≡ summary_after course (suc k)
 unfolding summary_after after_in
@@ -48,6 +49,8 @@ summary_next course k = λ i. record {
       (over_guests swapped_of (after_in course k)) i;
   swapped = (summary_after course (suc k)).swapped;
   balloon = (summary_after course (suc k)).balloon;
+  most_evicted = (summary_after course (suc k)).most_evicted;
+  worst = worst_next (sent_in course) k i;
 }
 
 -- ---- in the words of a run
@@ -67,7 +70,7 @@ after_same c k = refl
 -- the summary of a run that went on by a boundary, which told this and left this host, and by an epoch
 pub summary_more : (c : Config) (k : ℕ) (told : Boundary) (ready after : World) (before : ℕ) (old between new : Summary)
     → told ≡ boundary_at c k → ready ≡ ready_world c k → after ≡ world_after c (suc k) → old ≡ summary_after (course_of c) k
-    → before ≡ over_guests executed_by ready → between ≡ with_boundary told ready old → new ≡ with_epoch before after between
+    → before ≡ over_guests executed_by ready → between ≡ with_boundary told ready old → new ≡ with_epoch k before after between
     → new ≡ summary_after (course_of c) (suc k)
 summary_more c k told ready after before old between new told_is ready_is after_is old_is before_is between_is new_is =
     let now_told : told ≡ told_in (course_of c) k = told_is ∙ told_same c k in
@@ -76,4 +79,4 @@ summary_more c k told ready after before old between new told_is ready_is after_
     let now_before : before ≡ over_guests executed_by (ready_in (course_of c) k) = before_is ∙ ap (over_guests executed_by) now_ready in
     let now_between : between ≡ with_boundary (told_in (course_of c) k) (ready_in (course_of c) k) (summary_after (course_of c) k) =
     between_is ∙ (λ i. with_boundary (now_told i) (now_ready i) (old_is i)) in
-    new_is ∙ (λ i. with_epoch (now_before i) (now_after i) (now_between i)) ∙ summary_next (course_of c) k
+    new_is ∙ (λ i. with_epoch k (now_before i) (now_after i) (now_between i)) ∙ summary_next (course_of c) k

@@ -1,7 +1,7 @@
 -- Texts of records that are put together piece by piece.
-use Rattle.std.proofs.Common.{◌≡◌, ℕ, List, ◌++◌, Bool, codes, ap, ◌∙◌, append_assoc}
+use Rattle.std.proofs.Common.{◌≡◌, ℕ, List, ◌++◌, Bool, Option, codes, ap, ◌∙◌, append_assoc}
 use Rattle.std.specs.List.{flat_map}
-use Rattle.vm_tally.specs.Table.{end_of_record, field, number_field, yes_or_no}
+use Rattle.vm_tally.specs.Table.{end_of_record, field, number_field, optional_field, yes_or_no}
 
 -- four fields, and what is put behind them
 pub four-fields : (text made a b c d behind : List ℕ) → text ≡ a ++ (codes "," ++ (b ++ (codes "," ++ (c ++ (codes "," ++ d))))) → made ≡ text ++ behind
@@ -18,12 +18,12 @@ five-pieces made first a b c d e begins ends =
 
 -- in the order of a record
 pub record-together : (one two three four five front : List ℕ) (numbers : List ℕ) (swept : List ℕ) (more : List ℕ) (so : Bool)
-    (found found_more : List ℕ) (said : Bool) → one ≡ front → two ≡ one ++ flat_map number_field found → three ≡ two ++ swept
-    → four ≡ three ++ flat_map number_field found_more → five ≡ four ++ (field (yes_or_no said) ++ end_of_record)
+    (worst : Option ℕ) (found found_more : List ℕ) (said : Bool) → one ≡ front → two ≡ one ++ flat_map number_field found → three ≡ two ++ swept
+    → four ≡ three ++ flat_map number_field found_more → five ≡ four ++ (field (yes_or_no said) ++ (optional_field worst ++ end_of_record))
     → found ≡ numbers → found_more ≡ more → said ≡ so
-    → five ≡ front ++ (flat_map number_field numbers ++ (swept ++ (flat_map number_field more ++ (field (yes_or_no so) ++ end_of_record))))
-record-together one two three four five front numbers swept more so found found_more said is_one is_two is_three is_four is_five same same_more answer =
-    let end = λ (b : Bool). field (yes_or_no b) ++ end_of_record in
+    → five ≡ front ++ (flat_map number_field numbers ++ (swept ++ (flat_map number_field more ++ (field (yes_or_no so) ++ (optional_field worst ++ end_of_record)))))
+record-together one two three four five front numbers swept more so worst found found_more said is_one is_two is_three is_four is_five same same_more answer =
+    let end = λ (b : Bool). field (yes_or_no b) ++ (optional_field worst ++ end_of_record) in
     five-pieces five one front (flat_map number_field found) swept (flat_map number_field found_more) (end said) is_one
     (is_five ∙ ap (λ (l : List ℕ). l ++ end said) (is_four ∙ ap (λ (l : List ℕ). l ++ flat_map number_field found_more)
     (is_three ∙ ap (λ (l : List ℕ). l ++ swept) is_two)))

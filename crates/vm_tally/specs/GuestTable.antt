@@ -1,12 +1,12 @@
 -- The table of a sweep guest by guest, as comma-separated values (RFC 4180): a header, and a record for each run and guest.
-use Rattle.std.specs.Prelude.{ℕ, List, [], ◌∷◌, ◌++◌, Option, Some, None, codes, slice_get, unwrap_or}
+use Rattle.std.specs.Prelude.{ℕ, List, [], ◌∷◌, ◌++◌, Option, Some, codes, slice_get, unwrap_or}
 use Rattle.std.specs.List.{enumerate_from, flat_map}
 use Rattle.std.specs.Option.{option_map}
 use Rattle.vm_tally.specs.Combinations.{Values}
 use Rattle.vm_tally.specs.declared.guest_summary.GuestSummary.{GuestSummary}
 use Rattle.vm_tally.specs.declared.table.Rebalancing.{Rebalancing}
 use Rattle.vm_tally.specs.declared.table.Rebalancing.TheVariants.{Own, Swept}
-use Rattle.vm_tally.specs.Table.{end_of_record, field, number_field, setting_columns, swept_field, values_text}
+use Rattle.vm_tally.specs.Table.{end_of_record, field, number_field, optional_field, setting_columns, swept_field, values_text}
 
 -- the columns of what came of a run for a guest, and the end
 unfoldable pub guest_columns : Rebalancing → List ℕ
@@ -19,11 +19,6 @@ guest_columns Swept =
 -- the header, with further columns as in that of runs
 unfoldable pub guests_header : Rebalancing → (headings : List (List ℕ)) → List ℕ
 guests_header rebalancing headings = setting_columns rebalancing ++ (flat_map field headings ++ guest_columns rebalancing)
-
--- a number, or an empty field
-abbrev pub optional_field : Option ℕ → List ℕ
-optional_field (Some number) = number_field number
-optional_field None = field []
 
 -- the numbers of a guest up to what boundaries gave
 abbrev pub numbers_to_granted : GuestSummary → List ℕ

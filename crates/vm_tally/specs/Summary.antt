@@ -8,7 +8,7 @@ use Rattle.vm_host.specs.World.{World}
 use Rattle.vm_runs.specs.Course.{Run, host_after}
 use Rattle.vm_sim.specs.Course.{after_boundary, course_of, boundary_of_lines}
 use Rattle.vm_tally.specs.declared.summary.Summary.{Summary}
-use Rattle.vm_tally.specs.Counting.{greatest_over, least_over, one_if, sum_over}
+use Rattle.vm_tally.specs.Counting.{first_greatest_over, greatest_over, least_over, one_if, sum_over}
 use Rattle.vm_tally.specs.Counts.{evicted_from, executed_by, has_stalled, is_for_frames, is_for_swap, is_hard, is_high, is_low, is_soft, over_guests, paged, refused, revoked, swapped_of}
 
 -- ---- epoch k of a course
@@ -65,6 +65,10 @@ module _ (course : Run) where
   abbrev pub evicted_in : ℕ → ℕ
   evicted_in k = over_guests evicted_from (after_in course k)
 
+  -- the same, where it stops at the greatest number of 64 bits
+  abbrev pub sent_in : ℕ → ℕ
+  sent_in k = saturated (evicted_in k)
+
   -- entries of its grants
   abbrev pub granted_in : ℕ → ℕ
   granted_in k = length (told_in course k).granted
@@ -113,6 +117,8 @@ summary_after course n = record {
   most_swapped = greatest_over (most_swapped_in course) n;
   swapped = over_guests swapped_of (host_after course n);
   balloon = over_guests ballooned (host_after course n);
+  most_evicted = greatest_over (sent_in course) n;
+  worst = first_greatest_over (sent_in course) n;
 }
 
 -- what is told of the run of a configuration

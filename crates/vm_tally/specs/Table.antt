@@ -1,5 +1,5 @@
 -- The table of a sweep, as comma-separated values (RFC 4180): a header, and a record for each run.
-use Rattle.std.specs.Prelude.{ℕ, Bool, true, false, List, [], ◌∷◌, ◌++◌, codes}
+use Rattle.std.specs.Prelude.{ℕ, Bool, true, false, List, [], ◌∷◌, ◌++◌, Option, Some, None, codes}
 use Rattle.std.specs.Fmt.{decimal}
 use Rattle.std.specs.List.{flat_map}
 use Rattle.vm_lists.specs.declared.bounds.Unit.TheVariants.{Hundredths}
@@ -27,10 +27,10 @@ setting_columns Swept = codes "frames,swap,tax,page_rate,rebalance"
 -- those of what came of it, and the end
 unfoldable pub run_columns : Rebalancing → List ℕ
 run_columns Own =
-    codes ",high,soft,hard,low,least_free,no_memory,no_swap,revoked,paged,evicted,granted,blocked,stalls,done,left,most_swapped,swapped,balloon,fits"
+    codes ",high,soft,hard,low,least_free,no_memory,no_swap,revoked,paged,evicted,granted,blocked,stalls,done,left,most_swapped,swapped,balloon,fits,worst"
     ++ end_of_record
 run_columns Swept =
-    codes ",high,soft,hard,low,least_free,no_memory,no_swap,revoked,paged,evicted,granted,rebalanced,blocked,stalls,done,left,most_swapped,swapped,balloon,fits"
+    codes ",high,soft,hard,low,least_free,no_memory,no_swap,revoked,paged,evicted,granted,rebalanced,blocked,stalls,done,left,most_swapped,swapped,balloon,fits,worst"
     ++ end_of_record
 
 -- the header; further columns stand behind those of the settings, under these headings
@@ -39,6 +39,11 @@ header rebalancing headings = setting_columns rebalancing ++ (flat_map field hea
 
 abbrev pub number_field : ℕ → List ℕ
 number_field number = field (decimal number)
+
+-- a number, or an empty field
+abbrev pub optional_field : Option ℕ → List ℕ
+optional_field (Some number) = number_field number
+optional_field None = field []
 
 -- a number in such a column, if it is there
 abbrev pub swept_field : Rebalancing → ℕ → List ℕ
@@ -72,4 +77,5 @@ yes_or_no false = codes "no"
 unfoldable pub record_text : Rebalancing → Values → (further : List ℕ) → Summary → List ℕ
 record_text rebalancing c further s =
     values_text rebalancing c further ++ (flat_map number_field (numbers_to_granted s) ++ (swept_field rebalancing s.rebalanced
-    ++ (flat_map number_field (numbers_from_blocked s) ++ (field (yes_or_no (fits s)) ++ end_of_record))))
+    ++ (flat_map number_field (numbers_from_blocked s) ++ (field (yes_or_no (fits s))
+    ++ (optional_field s.worst ++ end_of_record)))))

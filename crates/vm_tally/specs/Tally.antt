@@ -1,5 +1,5 @@
 -- A summary that goes on by a boundary, and by an epoch: for private contracts alone.
-use Rattle.std.specs.Prelude.{ℕ, ◌+◌, ◌-◌, length, max, min}
+use Rattle.std.specs.Prelude.{ℕ, ◌+◌, ◌-◌, Some, None, if◌then◌else◌, length, max, min, nat_lt}
 use Rattle.vm_guest.specs.Record.{ballooned, saturated, steps_left}
 use Rattle.vm_host.specs.declared.boundary.Boundary.{Boundary}
 use Rattle.vm_host.specs.World.{World}
@@ -30,6 +30,8 @@ empty_summary frames = record {
   most_swapped = 0;
   swapped = 0;
   balloon = 0;
+  most_evicted = 0;
+  worst = None;
 }
 
 abbrev pub with_state : State → Summary → Summary
@@ -59,9 +61,16 @@ with_seen free swapped s = record s { least_free = min s.least_free free; most_s
 abbrev pub with_boundary : Boundary → World → Summary → Summary
 with_boundary b w s = with_seen b.free (over_guests swapped_of w) (with_moves b (with_state b.state s))
 
--- an epoch left this host, whose guests had executed so many steps before it
-abbrev pub with_epoch : (before : ℕ) → World → Summary → Summary
-with_epoch before w s = record (with_seen w.pool.free (over_guests swapped_of w) s) {
+-- touches of all guests sent so many pages to swap in an epoch
+abbrev pub with_sent : (epoch sent : ℕ) → Summary → Summary
+with_sent epoch sent s = record s {
+  most_evicted = max s.most_evicted sent;
+  worst = if nat_lt s.most_evicted sent then Some epoch else s.worst;
+}
+
+-- an epoch of this number left this host, whose guests had executed so many steps before it
+abbrev pub with_epoch : (epoch before : ℕ) → World → Summary → Summary
+with_epoch epoch before w s = record (with_sent epoch (saturated (over_guests evicted_from w)) (with_seen w.pool.free (over_guests swapped_of w) s)) {
   evicted = saturated (s.evicted + over_guests evicted_from w);
   stalls = saturated (s.stalls + over_guests has_stalled w);
   done = saturated (s.done + (over_guests executed_by w - before));

@@ -3,8 +3,8 @@ ghost use Rattle.std.specs.Prelude.{◌≡◌, ◌++◌, ◌∷◌, [], IfOk, On
 ghost use Rattle.std.specs.List.{flat_map};
 ghost use Rattle.std.specs.Option.{option_map};
 ghost use Rattle.vm_domains.specs.Domains.{names_of};
-ghost use Rattle.vm_tally.specs.GuestTable.{guest_columns, guest_fields, guest_records, guests_header, name_at, numbers_from_blocked, numbers_to_granted, optional_field};
-ghost use Rattle.vm_tally.specs.Table.{end_of_record, field, values_text};
+ghost use Rattle.vm_tally.specs.GuestTable.{guest_columns, guest_fields, guest_records, guests_header, name_at, numbers_from_blocked, numbers_to_granted};
+ghost use Rattle.vm_tally.specs.Table.{end_of_record, field, optional_field, values_text};
 
 use crate::combination::Combination;
 use crate::guest_summary::{AtEnd, GuestSummary};

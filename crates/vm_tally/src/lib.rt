@@ -6,6 +6,18 @@
 //!
 //! A [`GuestSummary`] tells of one guest of a run in the same words (`specs/GuestSummary.antt`). [`run_guests_alone`] gives one for
 //! each guest, which [`guests_header_text`] and [`guest_records_text`] write.
+//!
+//! **Proved**, for every configuration: [`run_alone`] runs it to its end in the caller's thread, answers the numbers of its run
+//! (`summary`, definition `summary_of` over the course of `run`), and gives it back (`back`); its only error is want of memory
+//! (`memory`). [`run_guests_alone`] answers the numbers of each guest, in order (`summaries`, definition `guest_summaries_of`). A
+//! `Combination` is five values in their ranges: `of` reads those of a configuration, `apply` gives it others and leaves all else
+//! (`configured`). The texts of records and headers are their definitions to the last byte, with columns of rebalancing or without,
+//! and with any further columns behind those of the settings. [`guest_names`] gives the names and leaves the configuration as it
+//! was. A name stands in a record as it is: that none needs quotes is a law of `vm_laws`, and so is what ties the numbers to the
+//! report.
+//!
+//! **Only tested**: that a run succeeds where memory is there; that the numbers are those that are meant, by records of an
+//! independent program. **Not claimed**: speed; that no sum reaches the greatest number of 64 bits, where it stops.
 #![tactic(auto)]
 
 mod combination;

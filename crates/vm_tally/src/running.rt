@@ -12,15 +12,20 @@ use crate::tally::{add_boundary, add_epoch, empty_summary};
 use std::alloc::Global;
 use vm_sim::{Config, Open, RunError, SteppedRun};
 
-// The next epoch of a run, with the boundary before it.
-fn add_next(alloc: Global, run: &mut SteppedRun, summary: &mut Summary) -> Result<(), RunError>
+// The next epoch of a run, which has this number, with the boundary before it.
+fn add_next(
+    alloc: Global,
+    epoch: u32,
+    run: &mut SteppedRun,
+    summary: &mut Summary,
+) -> Result<(), RunError>
     requires left { run.old.done < run.old.epochs }
     requires waits { run.old.host.phase ≡ Waiting }
     ensures next { (config : Configuration) (k : ℕ) → run.old ≡ run_after config k
         → OnOk result (run.new ≡ run_after config (suc k)) }
-    ensures summary { (config : Configuration) (k : ℕ) → run.old ≡ run_after config k
-        → summary.old ≡ summary_after (course_of config) k
-        → OnOk result (summary.new ≡ summary_after (course_of config) (suc k)) }
+    ensures summary { (config : Configuration) → run.old ≡ run_after config epoch
+        → summary.old ≡ summary_after (course_of config) epoch
+        → OnOk result (summary.new ≡ summary_after (course_of config) (suc epoch)) }
     ensures waits { OnOk result (run.new.host.phase ≡ Waiting) }
     ensures counted { OnOk result (run.new.done ≡ run.old.done + 1) }
     ensures epochs { OnOk result (run.new.epochs ≡ run.old.epochs) }
@@ -29,7 +34,7 @@ fn add_next(alloc: Global, run: &mut SteppedRun, summary: &mut Summary) -> Resul
     let told = run.boundary(alloc)?;
     let before = add_boundary(summary, &told, run.host());
     run.epoch_alone(&Open)?;
-    add_epoch(summary, before, run.host());
+    add_epoch(summary, epoch, before, run.host());
     Ok(())
 }
 
@@ -44,8 +49,8 @@ fn summarize(alloc: Global, run: &mut SteppedRun) -> Result<Summary, RunError>
     ensures memory { IfErr result (λ error. error ≡ Memory) }
 {
     let mut summary = empty_summary(run.host().frames());
-    for _epoch in 0..run.epochs() {
-        add_next(alloc, run, &mut summary)?;
+    for epoch in 0..run.epochs() {
+        add_next(alloc, epoch, run, &mut summary)?;
     }
     Ok(summary)
 }

@@ -41,6 +41,10 @@ pub struct Summary {
     pub swapped: u64,
     /// Pages of all guests in their balloons at the end.
     pub balloon: u64,
+    /// The most pages that touches of all guests sent to swap in one epoch.
+    pub most_evicted: u64,
+    /// The first epoch, from 0, in which they sent so many; none where none was sent.
+    pub worst: Option<u32>,
 }
 
 impl Summary {

@@ -2,7 +2,7 @@
 ghost use Rattle.std.specs.Prelude.{◌≡◌, ◌++◌, IfOk, OnOk, map, string_bytes};
 ghost use Rattle.std.specs.Fmt.{decimal};
 ghost use Rattle.std.specs.List.{flat_map};
-ghost use Rattle.vm_tally.specs.Table.{combination_text, end_of_record, field, header, number_field, numbers_from_blocked, numbers_to_granted, record_text, run_columns, setting_columns, swept_field, values_text, yes_or_no};
+ghost use Rattle.vm_tally.specs.Table.{combination_text, end_of_record, field, header, number_field, numbers_from_blocked, numbers_to_granted, optional_field, record_text, run_columns, setting_columns, swept_field, values_text, yes_or_no};
 
 use crate::combination::Combination;
 use crate::summary::Summary;
@@ -36,10 +36,10 @@ fn run_columns(rebalancing: Rebalancing) -> &'static str
 {
     match rebalancing {
         Rebalancing::Own => {
-            ",high,soft,hard,low,least_free,no_memory,no_swap,revoked,paged,evicted,granted,blocked,stalls,done,left,most_swapped,swapped,balloon,fits\r\n"
+            ",high,soft,hard,low,least_free,no_memory,no_swap,revoked,paged,evicted,granted,blocked,stalls,done,left,most_swapped,swapped,balloon,fits,worst\r\n"
         }
         Rebalancing::Swept => {
-            ",high,soft,hard,low,least_free,no_memory,no_swap,revoked,paged,evicted,granted,rebalanced,blocked,stalls,done,left,most_swapped,swapped,balloon,fits\r\n"
+            ",high,soft,hard,low,least_free,no_memory,no_swap,revoked,paged,evicted,granted,rebalanced,blocked,stalls,done,left,most_swapped,swapped,balloon,fits,worst\r\n"
         }
     }
 }
@@ -174,11 +174,22 @@ fn numbers_from_blocked(s: &Summary) -> [u64; 7]
     ]
 }
 
-// Whether all fits, and the end.
-fn push_fits(text: &mut String, fits: bool) -> Result<(), AllocError>
-    ensures { OnOk result (string_bytes text.new ≡ string_bytes text.old ++ (field (yes_or_no fits) ++ end_of_record)) }
+fn yes_or_no(is_so: bool) -> &'static str
+    ensures { result.now ≡ yes_or_no is_so }
 {
-    text.push_str(if fits { ",yes\r\n" } else { ",no\r\n" })
+    if is_so { "yes" } else { "no" }
+}
+
+// Whether all fits, the worst epoch, if there is one, and the end.
+fn push_end(text: &mut String, fits: bool, worst: Option<u32>) -> Result<(), AllocError>
+    ensures { OnOk result (string_bytes text.new ≡ string_bytes text.old
+        ++ (field (yes_or_no fits) ++ (optional_field worst ++ end_of_record))) }
+{
+    let fits = yes_or_no(fits);
+    match worst {
+        Some(epoch) => write!(text, ",{fits},{epoch}\r\n"),
+        None => write!(text, ",{fits},\r\n"),
+    }
 }
 
 /// The record of a run, with its end. It has a number for each further column.
@@ -196,6 +207,6 @@ pub fn record_text(
     push_numbers(&mut text, &numbers_to_granted(summary))?;
     push_swept(&mut text, rebalancing, summary.rebalanced)?;
     push_numbers(&mut text, &numbers_from_blocked(summary))?;
-    push_fits(&mut text, summary.fits())?;
+    push_end(&mut text, summary.fits(), summary.worst)?;
     Ok(text)
 }

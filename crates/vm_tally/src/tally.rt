@@ -1,9 +1,9 @@
 // What was counted of a run so far.
-ghost use Rattle.std.specs.Prelude.{◌≡◌, ◌+◌};
+ghost use Rattle.std.specs.Prelude.{◌≡◌, ◌+◌, Some, if◌then◌else◌, nat_lt};
 ghost use Rattle.vm_guest.specs.Record.{saturated};
 ghost use Rattle.vm_tally.specs.Counting.{one_if};
 ghost use Rattle.vm_tally.specs.Counts.{executed_by, is_hard, is_high, is_low, is_soft, over_guests};
-ghost use Rattle.vm_tally.specs.Tally.{empty_summary, with_boundary, with_epoch, with_moves, with_seen, with_state};
+ghost use Rattle.vm_tally.specs.Tally.{empty_summary, with_boundary, with_epoch, with_moves, with_seen, with_sent, with_state};
 
 use crate::guest_counts::counts_of;
 use crate::line_counts::{no_memory, no_swap, paged, pages_of, revoked};
@@ -34,6 +34,8 @@ pub(crate) fn empty_summary(frames: u32) -> Summary
         most_swapped: 0,
         swapped: 0,
         balloon: 0,
+        most_evicted: 0,
+        worst: None,
     }
 }
 
@@ -113,12 +115,32 @@ pub(crate) fn add_boundary(summary: &mut Summary, told: &Boundary, host: &Host) 
     counts.executed
 }
 
-// An epoch left this host, whose guests had executed so many steps before it.
-pub(crate) fn add_epoch(summary: &mut Summary, before: u64, host: &Host)
-    ensures { summary.new ≡ with_epoch before host.now summary.old }
+// The worst epoch, where touches of all guests sent so many pages to swap in this one: an earlier one stays that had as many.
+fn worst(summary: &Summary, epoch: u32, sent: u64) -> Option<u32>
+    ensures { result ≡ (if nat_lt summary.now.most_evicted sent then Some epoch else summary.now.worst) }
+{
+    if sent > summary.most_evicted {
+        Some(epoch)
+    } else {
+        summary.worst
+    }
+}
+
+// They sent so many in an epoch.
+fn see_sent(summary: &mut Summary, epoch: u32, sent: u64)
+    ensures { summary.new ≡ with_sent epoch sent summary.old }
+{
+    summary.worst = worst(summary, epoch, sent);
+    summary.most_evicted = summary.most_evicted.max(sent);
+}
+
+// An epoch of this number left this host, whose guests had executed so many steps before it.
+pub(crate) fn add_epoch(summary: &mut Summary, epoch: u32, before: u64, host: &Host)
+    ensures { summary.new ≡ with_epoch epoch before host.now summary.old }
 {
     let counts = counts_of(host);
     see(summary, host.free(), counts.swapped);
+    see_sent(summary, epoch, counts.evicted);
     let done = counts.executed.saturating_sub(before);
     summary.evicted = summary.evicted.saturating_add(counts.evicted);
     summary.stalls = summary.stalls.saturating_add(counts.stalled);

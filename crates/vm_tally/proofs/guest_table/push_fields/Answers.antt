@@ -1,7 +1,6 @@
 use Rattle.std.proofs.Common.{List, Option, ℕ, ap}
 use Rattle.std.specs.List.{flat_map}
-use Rattle.vm_tally.specs.Table.{number_field}
-use Rattle.vm_tally.specs.GuestTable.{optional_field}
+use Rattle.vm_tally.specs.Table.{number_field, optional_field}
 use Rattle.vm_tally.proofs.TextLemmas.{fields-together}
 use Rattle.vm_tally.proofs.guest_table.push_fields.Goals as goal
 

@@ -1,6 +1,6 @@
 use Rattle.std.proofs.Common.{◌≡◌, ◌++◌, drop, string_bytes}
 use Rattle.std.specs.List.{flat_map}
-use Rattle.vm_tally.specs.GuestTable.{optional_field}
+use Rattle.vm_tally.specs.Table.{optional_field}
 use Rattle.vm_tally.proofs.guest_table.push_optionals.Given as goal
 
 -- the numbers that are left complete the text

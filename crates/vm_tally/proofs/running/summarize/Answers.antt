@@ -18,12 +18,12 @@ loop-epoch-init c = record {
 
 pub loop-epoch-preserved : goal.loop-epoch-preserved
 loop-epoch-preserved c =
-    let k = c.loop-epoch._epoch in
+    let k = c.loop-epoch.epoch in
     record {
       done = c.in_ok-add_next.ensures.counted ∙ ap (λ (n : ℕ). n + 1) c.loop-epoch.invariant.done;
       epochs = c.in_ok-add_next.ensures.epochs ∙ c.loop-epoch.invariant.epochs;
       waits = c.in_ok-add_next.ensures.waits;
       run = λ config is. rw add-one (c.in_ok-add_next.ensures.next config k (c.loop-epoch.invariant.run config is));
-      summary = λ config is. rw add-one (c.in_ok-add_next.ensures.summary config k (c.loop-epoch.invariant.run config is)
+      summary = λ config is. rw add-one (c.in_ok-add_next.ensures.summary config (c.loop-epoch.invariant.run config is)
           (c.loop-epoch.invariant.summary config is));
     }
