@@ -1,3 +1,4 @@
+pub mod CurveLemmas
 pub mod DrawnLemmas
 pub mod JobLemmas
 pub mod RoundLemmas
@@ -8,3 +9,4 @@ pub mod WrittenLemmas
 pub mod SweepLemmas
 pub mod LaneLists
 pub mod LaneLemmas
+pub mod OrderLemmas

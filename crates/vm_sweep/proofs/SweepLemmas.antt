@@ -1,15 +1,15 @@
 -- One machine more, joined words, charts that have no words for their values, and places on their axis.
-use Rattle.std.proofs.Common.{◌≡◌, ℕ, ◌+◌, ◌-◌, ◌*◌, ◌/◌, ◌<◌, ◌==◌, false, List, ◌∷◌, [], ◌++◌, codes, length, map, Result, Ok, Err, IfOk, ap, ◌∙◌, sym, subst, All, arith, refl}
+use Rattle.std.proofs.Common.{◌≡◌, ℕ, ◌+◌, ◌-◌, ◌*◌, ◌/◌, ◌<◌, ◌==◌, false, List, ◌∷◌, [], ◌++◌, codes, length, map, Result, Ok, Err, IfOk, ap, ◌∙◌, sym, subst, All, Option, arith, refl}
 use Rattle.std.proofs.Math.Nat.{mul-div-le}
 use Rattle.std.proofs.lemmas.List.FromFn.{get_or-map-range_with_len, length-map-range_with_len, map-range_with_len_more}
 use Rattle.std.proofs.lemmas.Nat.{mul-add-lt}
 use Rattle.std.specs.List.{flat_map, join_by, range_with_len}
 use Rattle.vm_drawing.specs.Stacked.{Each, HasWords}
-use Rattle.vm_sweep.specs.declared.runs.SweptRun.{SweptRun}
+use Rattle.vm_sweep.specs.declared.points.SweptPoint.{SweptPoint}
 use Rattle.vm_sweep.specs.CurveNames.{named}
 use Rattle.vm_sweep.specs.OnAxis.{FramesRise, IsOnAxis}
 use Rattle.vm_sweep.specs.SweepDrawing.{frame_axis, sweep_charts}
-use Rattle.vm_sweep.specs.SweptRuns.{frames_of, machine_count, places_of, run_at}
+use Rattle.vm_sweep.specs.SweptRuns.{machine_count, place_of, places_of, point_at}
 
 -- what is shown of the machines so far, and of one more
 pub one_more : {X : Type 0} (f : ℕ → X) (n : ℕ) (x : X) (old new : List X) → old ≡ map f (range_with_len 0 n) → f n ≡ x
@@ -35,21 +35,21 @@ if_named (Ok t) text f words some is = is ∙ named_by f words some
 if_named (Err e) text f words some is = tt
 
 -- where there is no word none is asked for
-pub sweep-has_words : (runs : List SweptRun) (curves : ℕ) → Each HasWords (sweep_charts runs curves)
-sweep-has_words runs curves = ((λ some. absurd (omega (arith, some))), ((λ some. absurd (omega (arith, some))), tt))
+pub sweep-has_words : (seeds : Option ℕ) (names : List (List ℕ)) (points : List SweptPoint) → Each HasWords (sweep_charts seeds names points)
+sweep-has_words seeds names points = ((λ some. absurd (omega (arith, some))), ((λ some. absurd (omega (arith, some))), tt))
 
 -- ---- places
 
-run_inside : (n curves machine curve : ℕ) → machine < n / curves → curve < curves → machine * curves + curve < n
-run_inside n curves machine curve below inside =
+point_inside : (n curves machine curve : ℕ) → machine < n / curves → curve < curves → machine * curves + curve < n
+point_inside n curves machine curve below inside =
     omega (arith, mul-add-lt machine curves curve (n / curves) below inside, mul-div-le n curves)
 
--- the frames of each run are between those of the first and those of the last
-pub places_on_axis : (runs : List SweptRun) (curves curve : ℕ) → FramesRise runs → curve < curves
-    → All (IsOnAxis (frame_axis runs)) (places_of runs curves curve)
-places_on_axis runs curves curve rise inside = λ machine d below.
-    let machines = machine_count runs curves in
-    let some : machine < machines = omega (arith, below, length-map-range_with_len (λ m. frames_of (run_at runs curves m curve)) 0 machines) in
-    let there = run_inside (length runs) curves machine curve some inside in
-    subst (IsOnAxis (frame_axis runs)) (sym (get_or-map-range_with_len (λ m. frames_of (run_at runs curves m curve)) 0 machines machine machine d some (omega arith)))
-    (rise 0 (machine * curves + curve) (omega arith) there, rise (machine * curves + curve) (length runs - 1) (omega (arith, there)) (omega (arith, there)))
+-- the frames of each point are between those of the first and those of the last
+pub places_on_axis : (points : List SweptPoint) (curves curve : ℕ) → FramesRise points → curve < curves
+    → All (IsOnAxis (frame_axis points)) (places_of points curves curve)
+places_on_axis points curves curve rise inside = λ machine d below.
+    let machines = machine_count points curves in
+    let some : machine < machines = omega (arith, below, length-map-range_with_len (λ m. place_of (point_at points curves m curve)) 0 machines) in
+    let there = point_inside (length points) curves machine curve some inside in
+    subst (IsOnAxis (frame_axis points)) (sym (get_or-map-range_with_len (λ m. place_of (point_at points curves m curve)) 0 machines machine machine d some (omega arith)))
+    (rise 0 (machine * curves + curve) (omega arith) there, rise (machine * curves + curve) (length points - 1) (omega (arith, there)) (omega (arith, there)))

@@ -105,19 +105,39 @@ spread_each setting config [] variants = variants
 spread_each setting config (list ∷ lists) variants =
     spread_each setting config lists (spread_over (looped_at setting (place_in config list)) list.values variants)
 
--- the five settings: frames outermost, then swap, tax, page rate and rebalance
-abbrev pub machines : ValueLists → List Variant → List Variant
-machines lists variants =
+-- four settings: swap outermost, then tax, page rate and rebalance
+abbrev pub settings : ValueLists → List Variant → List Variant
+settings lists variants =
     spread (Machine Rebalance) lists.rebalance (spread (Machine PageRate) lists.page_rate (spread (Machine Tax) lists.tax
-    (spread (Machine Swap) lists.swap (spread (Machine Frames) lists.frames variants))))
+    (spread (Machine Swap) lists.swap variants)))
 
--- all runs, as the loops have them: behind those of the five settings the percentage, each list of minimums, each of shares, and
--- innermost the seeds
+-- the five settings: outside these the frames
+abbrev pub machines : ValueLists → List Variant → List Variant
+machines lists variants = settings lists (spread (Machine Frames) lists.frames variants)
+
+-- of guests: the percentage, each list of minimums, each of shares
+abbrev pub guests : ValueLists → Config → List Variant → List Variant
+guests lists config variants =
+    spread_each OfShares config lists.shares (spread_each Min config lists.minimums (spread Percent lists.min_percent variants))
+
+-- all runs, as the loops have them: the five settings, guests, and innermost the seeds
 unfoldable pub variants : ValueLists → Config → List Variant
 variants lists config =
-    spread Seed (option_map (range_with_len 0) lists.seeds)
-    (spread_each OfShares config lists.shares (spread_each Min config lists.minimums
-    (spread Percent lists.min_percent (machines lists (own_of config ∷ [])))))
+    spread Seed (option_map (range_with_len 0) lists.seeds) (guests lists config (machines lists (own_of config ∷ [])))
+
+-- what differs on one machine with one seed: the loops but those of frames and seeds
+unfoldable pub combinations : ValueLists → Config → List Variant
+combinations lists config = guests lists config (settings lists (own_of config ∷ []))
+
+-- all of these on each machine, the first machine first
+abbrev pub on_machines : Option (List ℕ) → List Variant → List Variant
+on_machines None variants = variants
+on_machines (Some frames) variants = flat_map (λ f. map (λ v. with_looped (Machine Frames) f v) variants) frames
+
+-- how many runs there are of each combination on a machine
+abbrev pub seed_count : Option ℕ → ℕ
+seed_count None = 1
+seed_count (Some seeds) = seeds
 
 -- ---- the columns of a table behind those of the five settings
 

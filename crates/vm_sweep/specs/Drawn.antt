@@ -1,5 +1,5 @@
 -- The drawing of a sweep, and what a sweep that is drawn, or isn't, has written.
-use Rattle.std.specs.Prelude.{◌≡◌, ℕ, ◌+◌, ◌*◌, List, length, map, Option, None, Some, Err}
+use Rattle.std.specs.Prelude.{◌≡◌, ℕ, ◌+◌, List, map, Option, Err}
 use Rattle.std.specs.Io.KnownBytes.{Keeps}
 use Rattle.vm_config.specs.declared.config.Config.{Config as Configuration}
 use Rattle.vm_config.specs.Reading.{config_of}
@@ -9,47 +9,40 @@ use Rattle.vm_sim.specs.declared.run_error.RunError.{RunError}
 use Rattle.vm_sim.specs.declared.run_error.RunError.TheVariants.{Config, Read, Write, Memory, Workers}
 use Rattle.vm_sim.specs.Run.{MeansConfig}
 use Rattle.vm_streams.specs.Streams.{AppendsFront}
-use Rattle.vm_sweep.specs.Combinations.{ValueLists, rebalancing_of, varied, variants}
+use Rattle.vm_sweep.specs.Combinations.{ValueLists, combinations, rebalancing_of, seed_count, varied, variants}
+use Rattle.vm_sweep.specs.CurveNames.{curve_names}
 use Rattle.vm_sweep.specs.Orders.{Order, order_of}
 use Rattle.vm_sweep.specs.declared.outcome.Detail.TheVariants.{Run}
 use Rattle.vm_sweep.specs.SweepDrawing.{sweep_drawing}
+use Rattle.vm_sweep.specs.SweptRuns.{points_of}
 use Rattle.vm_sweep.specs.declared.runs.SweptRun.{SweptRun}
-use Rattle.vm_tally.specs.Combinations.{Values}
 use Rattle.vm_tally.specs.Summary.{summary_of}
 use Rattle.vm_tally.specs.declared.summary.Summary.{Summary}
 
--- what is drawn of a run with these values; a sum stops at the greatest number of 64 bits
-abbrev pub swept_run : Values → Summary → SweptRun
-swept_run values summary = record {
-  frames = values.frames;
-  swap = values.swap;
-  tax = values.tax;
-  page_rate = values.page_rate;
-  rebalance = values.rebalance;
+-- what is drawn of a run on a machine of so many frames; a sum stops at the greatest number of 64 bits
+abbrev pub swept_run : (frames : ℕ) → Summary → SweptRun
+swept_run frames summary = record {
+  frames = frames;
   moved = saturated (summary.paged + summary.evicted);
   waited = saturated (summary.blocked + summary.stalls);
 }
 
 -- what is drawn of a run that is wanted
 abbrev pub swept_of : Order → SweptRun
-swept_of order = swept_run order.variant.combination (summary_of (varied order.variant order.base))
-
--- how many values a setting has in turn: one without a list keeps its own
-abbrev pub value_count : Option (List ℕ) → ℕ
-value_count None = 1
-value_count (Some values) = length values
-
--- how many combinations of all settings but the frames there are: the drawing has a curve for each
-abbrev pub curves_of : ValueLists → ℕ
-curves_of lists = value_count lists.swap * value_count lists.tax * value_count lists.page_rate * value_count lists.rebalance
+swept_of order = swept_run order.variant.combination.frames (summary_of (varied order.variant order.base))
 
 -- all runs, in order
 abbrev pub runs_of : ValueLists → Configuration → List SweptRun
 runs_of lists config = map swept_of (map (order_of (Run (rebalancing_of lists)) config) (variants lists config))
 
+-- the names of the curves, one for each combination
+abbrev pub names_of : ValueLists → Configuration → List (List ℕ)
+names_of lists config = curve_names lists (combinations lists config)
+
 -- the drawing of the sweep of a configuration
 unfoldable pub drawing_of : ValueLists → Configuration → List ℕ
-drawing_of lists config = svg_of (sweep_drawing (rebalancing_of lists) config.machine.page (runs_of lists config) (curves_of lists))
+drawing_of lists config =
+    svg_of (sweep_drawing lists config.machine.page (names_of lists config) (points_of (seed_count lists.seeds) (runs_of lists config)))
 
 module _ (old new : Option (List ℕ)) where
   -- why this drawing was not written, or not all of it, and what was written by then

@@ -6,6 +6,7 @@ pub mod Outcomes
 pub mod Rounds
 pub mod Table
 pub mod Written
+pub mod Medians
 pub mod SweptRuns
 pub mod CurveNames
 pub mod SweepDrawing

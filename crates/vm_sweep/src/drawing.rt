@@ -1,11 +1,13 @@
 //! A sweep as a drawing: what a host pages and whom it lets wait on each machine.
-ghost use Rattle.std.specs.Prelude.{◌≡◌, ◌<◌, ◌≤◌, ◌++◌, Err, IfErr, IfOk, IfSome, OnOk, length, map, vec_len};
+ghost use Rattle.std.specs.Prelude.{◌≡◌, ◌<◌, ◌≤◌, ◌++◌, Err, IfErr, IfOk, IfSome, OnOk, length, map, string_bytes, vec_len};
 ghost use Rattle.std.specs.Io.KnownBytes.{Appends, Keeps};
 ghost use Rattle.std.specs.Vec.Iter.{into_iter_items, into_iter_len};
 ghost use Rattle.vm_sim.specs.declared.run_error.RunError.TheVariants.{Write};
 ghost use Rattle.vm_sim.specs.Run.{MeansConfig};
 ghost use Rattle.vm_streams.specs.Streams.{NewlyFailed};
-ghost use Rattle.vm_sweep.specs.Drawn.{FailsOnDrawing, FailsToDraw, drawing_of, swept_of};
+ghost use Rattle.vm_sweep.specs.Drawn.{FailsOnDrawing, FailsToDraw, drawing_of, names_of, runs_of, swept_of};
+ghost use Rattle.vm_sweep.specs.Combinations.{seed_count};
+ghost use Rattle.vm_sweep.specs.SweptRuns.{points_of};
 ghost use Rattle.vm_sweep.specs.Refusals.{IsAccepted, StopsFor};
 ghost use Rattle.vm_sweep.specs.Rounds.{IsUnderWay};
 
@@ -13,11 +15,13 @@ use crate::charts::sweep_svg;
 use crate::errors::SweepError;
 use crate::job::{RunDone, RunJob};
 use crate::lists::Lists;
+use crate::names::curve_names;
 use crate::outcome::{Detail, Outcome};
+use crate::points::SweptPoint;
 use crate::progress::Progress;
 use crate::reading::read_for;
 use crate::rounds::{prepare, run_next};
-use crate::runs::SweptRun;
+use crate::runs::{SweptRun, points_of as points_among};
 use crate::workplace::Workplace;
 use std::alloc::{AllocError, Global};
 use std::thread::Threads;
@@ -30,16 +34,12 @@ use vm_streams::{Sink, write_text};
 fn swept_of(done: &RunDone) -> Option<SweptRun>
     ensures { IfSome result (λ run. run ≡ swept_of done.now) }
 {
-    let values = done.variant().combination;
+    let frames = done.variant().combination.frames;
     let Some(Outcome::InNumbers(summary)) = done.outcome() else {
         return None;
     };
     Some(SweptRun {
-        frames: values.frames,
-        swap: values.swap,
-        tax: values.tax,
-        page_rate: values.page_rate,
-        rebalance: values.rebalance,
+        frames,
         moved: summary.paged.saturating_add(summary.evicted),
         waited: summary.blocked.saturating_add(summary.stalls),
     })
@@ -88,6 +88,32 @@ fn page_of(config: &Config) -> u32
     config.machine.page
 }
 
+// The names of the curves.
+fn names_of(alloc: Global, config: &Config, lists: &Lists) -> Result<Vec<String>, AllocError>
+    ensures { IfOk result (λ names. map string_bytes names.items ≡ names_of lists.now config.now) }
+{
+    let combinations = lists.combinations(alloc, config)?;
+    curve_names(alloc, lists, &combinations)
+}
+
+// What is drawn of each machine and combination.
+fn points_of<RT: Threads + Sync, P: Progress>(
+    rt: &RT,
+    alloc: Global,
+    config: Config,
+    lists: &Lists,
+    workers: u32,
+    progress: &P,
+) -> Result<Vec<SweptPoint>, AllocError>
+    requires { (0 < workers) × (workers ≤ 64) }
+    ensures { IfOk result (λ points. points.items ≡ points_of (seed_count lists.now.seeds) (runs_of lists.now config)) }
+{
+    let detail = Detail::Run(lists.rebalancing());
+    let (jobs, mut places) = prepare(alloc, detail, config, lists, workers)?;
+    let runs = run_all(rt, alloc, jobs.into_iter(), &mut places, progress)?;
+    points_among(alloc, lists.seed_count(), &runs)
+}
+
 // The drawing of a configuration.
 fn drawing_of<RT: Threads + Sync, P: Progress>(
     rt: &RT,
@@ -100,11 +126,10 @@ fn drawing_of<RT: Threads + Sync, P: Progress>(
     requires { (0 < workers) × (workers ≤ 64) }
     ensures { IfOk result (λ drawing. drawing.items ≡ drawing_of lists.now config) }
 {
-    let rebalancing = lists.rebalancing();
     let page = page_of(&config);
-    let (jobs, mut places) = prepare(alloc, Detail::Run(rebalancing), config, lists, workers)?;
-    let runs = run_all(rt, alloc, jobs.into_iter(), &mut places, progress)?;
-    sweep_svg(alloc, rebalancing, page, &runs, lists.curve_count())
+    let names = names_of(alloc, &config, lists)?;
+    let points = points_of(rt, alloc, config, lists, workers, progress)?;
+    sweep_svg(alloc, lists, page, &names, &points)
 }
 
 // Writes it.
@@ -128,8 +153,9 @@ fn write_drawing<RT: Threads + Sync, W: Sink, P: Progress>(
 }
 
 /// Runs the configuration that a text is once for each combination of values, as [`sweep`](crate::sweep) does, and draws the sweep as
-/// [`sweep_svg`] draws it: what a host pages and whom it lets wait on each machine, with a curve for each combination of swap, tax,
-/// page rate and rebalance.
+/// [`sweep_svg`] draws it: what a host pages and whom it lets wait on each machine, with a curve for each combination of what the lists
+/// have values for beside frames and seeds. Its name tells what differs among these, as `swap 400, min db 64`, and is `all` where nothing
+/// does.
 ///
 /// Nothing is written before the last run has ended; `progress` is told after each round. The drawing is the same for any number of
 /// workers.

@@ -1,12 +1,10 @@
 //! Lists of values, and the runs that they make.
-ghost use Rattle.std.specs.Prelude.{◌≡◌, ◌*◌, ◌++◌, ◌∷◌, [], All, IfOk, IfSome, None, OnOk, map};
+ghost use Rattle.std.specs.Prelude.{◌≡◌, ◌++◌, ◌∷◌, [], All, IfOk, IfSome, None, OnOk, map};
 ghost use Rattle.std.specs.List.{range_with_len};
 ghost use Rattle.std.specs.Option.{option_map};
 ghost use Rattle.vm_config.specs.Settings.{IsInRange};
 ghost use Rattle.vm_config.specs.declared.settings.Setting.TheVariants.{Frames, Swap, Tax, PageRate, Rebalance};
-ghost use Rattle.vm_guest.specs.Record.{saturated};
-ghost use Rattle.vm_sweep.specs.Combinations.{Allows, looped_at, machines, place_in, rebalancing_by, rebalancing_of, spread, spread_each, spread_over, variants, with_looped};
-ghost use Rattle.vm_sweep.specs.Drawn.{curves_of, value_count};
+ghost use Rattle.vm_sweep.specs.Combinations.{Allows, combinations, guests, looped_at, machines, own_of, place_in, rebalancing_by, rebalancing_of, seed_count, settings, spread, spread_each, spread_over, variants, with_looped};
 ghost use Rattle.vm_variants.specs.Changes.{IsPercent};
 
 use crate::variant::{Looped, Variant};
@@ -236,6 +234,15 @@ fn spread_seeds(
     }
 }
 
+// What a configuration has of its own, alone.
+fn own_alone(alloc: Global, config: &Config) -> Result<Vec<Variant>, AllocError>
+    ensures { IfOk result (λ list. list.items ≡ own_of config.now ∷ []) }
+{
+    let mut list = Vec::new(alloc);
+    list.push(Variant::own_of(alloc, config))?;
+    Ok(list)
+}
+
 // Where the values of the rebalancing are from.
 fn rebalancing_by(values: &Option<ValueList>) -> Rebalancing
     ensures { result ≡ rebalancing_by values.now }
@@ -243,16 +250,6 @@ fn rebalancing_by(values: &Option<ValueList>) -> Rebalancing
     match values {
         Some(_) => Rebalancing::Swept,
         None => Rebalancing::Own,
-    }
-}
-
-// How many values a setting has in turn: one without a list keeps its own.
-fn value_count(values: &Option<ValueList>) -> u64
-    ensures { result ≡ value_count values.now }
-{
-    match values {
-        Some(values) => values.len(),
-        None => 1,
     }
 }
 
@@ -360,11 +357,10 @@ impl Lists {
         self.seeds
     }
 
-    // These variants with each value of the settings.
-    fn machines(&self, alloc: Global, list: Vec<Variant>) -> Result<Vec<Variant>, AllocError>
-        ensures { IfOk result (λ made. made.items ≡ machines self.now list.items) }
+    // These variants with each value of the settings but the frames.
+    fn settings(&self, alloc: Global, list: Vec<Variant>) -> Result<Vec<Variant>, AllocError>
+        ensures { IfOk result (λ made. made.items ≡ settings self.now list.items) }
     {
-        let list = spread(alloc, list, Looped::Machine(Setting::Frames), &self.frames)?;
         let list = spread(alloc, list, Looped::Machine(Setting::Swap), &self.swap)?;
         let list = spread(alloc, list, Looped::Machine(Setting::Tax), &self.tax)?;
         let list = spread(
@@ -381,6 +377,14 @@ impl Lists {
         )
     }
 
+    // The same with each value of the frames outside these.
+    fn machines(&self, alloc: Global, list: Vec<Variant>) -> Result<Vec<Variant>, AllocError>
+        ensures { IfOk result (λ made. made.items ≡ machines self.now list.items) }
+    {
+        let list = spread(alloc, list, Looped::Machine(Setting::Frames), &self.frames)?;
+        self.settings(alloc, list)
+    }
+
     // These with each percentage.
     fn percents(&self, alloc: Global, list: Vec<Variant>) -> Result<Vec<Variant>, AllocError>
         ensures { IfOk result (λ made. made.items ≡ spread Looped.Percent self.now.min_percent list.items) }
@@ -388,7 +392,21 @@ impl Lists {
         spread(alloc, list, Looped::Percent, &self.min_percent)
     }
 
-    // What each run has, in order.
+    // These with all that lists for guests make of them.
+    fn guests(
+        &self,
+        alloc: Global,
+        config: &Config,
+        list: Vec<Variant>,
+    ) -> Result<Vec<Variant>, AllocError>
+        ensures { IfOk result (λ made. made.items ≡ guests self.now config.now list.items) }
+    {
+        let list = self.percents(alloc, list)?;
+        let list = spread_each(alloc, list, config, GuestSetting::Min, self.minimums())?;
+        spread_each(alloc, list, config, GuestSetting::Shares, self.shares())
+    }
+
+    /// What each run has, in order.
     #[tactic(auto, unfolding(crate::specs::Combinations::variants))]
     pub(crate) fn variants(
         &self,
@@ -397,36 +415,38 @@ impl Lists {
     ) -> Result<Vec<Variant>, AllocError>
         ensures { IfOk result (λ list. list.items ≡ variants self.now config.now) }
     {
-        let mut list = Vec::new(alloc);
-        list.push(Variant::own_of(alloc, config))?;
-        let list = self.machines(alloc, list)?;
-        let list = self.percents(alloc, list)?;
-        let list = spread_each(alloc, list, config, GuestSetting::Min, self.minimums())?;
-        let list = spread_each(alloc, list, config, GuestSetting::Shares, self.shares())?;
+        let list = self.machines(alloc, own_alone(alloc, config)?)?;
+        let list = self.guests(alloc, config, list)?;
         spread_seeds(alloc, list, self.seeds())
     }
 
-    // Whether there is a list for the rebalancing.
+    /// What the runs of one machine with one seed have, in order.
+    #[tactic(auto, unfolding(crate::specs::Combinations::combinations))]
+    pub(crate) fn combinations(
+        &self,
+        alloc: Global,
+        config: &Config,
+    ) -> Result<Vec<Variant>, AllocError>
+        ensures { IfOk result (λ list. list.items ≡ combinations self.now config.now) }
+    {
+        let list = self.settings(alloc, own_alone(alloc, config)?)?;
+        self.guests(alloc, config, list)
+    }
+
+    /// How many runs there are of each combination on a machine.
+    pub(crate) fn seed_count(&self) -> usize
+        ensures { result ≡ seed_count self.now.seeds }
+    {
+        match self.seeds {
+            Some(seeds) => seeds as usize,
+            None => 1,
+        }
+    }
+
+    /// Whether there is a list for the rebalancing.
     pub(crate) fn rebalancing(&self) -> Rebalancing
         ensures { result ≡ rebalancing_of self.now }
     {
         rebalancing_by(&self.rebalance)
-    }
-
-    // How many combinations of swap, tax and page rate there are, up to the greatest number of 64 bits.
-    fn count_of_three(&self) -> u64
-        ensures { result ≡ saturated (value_count self.now.swap * value_count self.now.tax * value_count self.now.page_rate) }
-    {
-        value_count(&self.swap)
-            .saturating_mul(value_count(&self.tax))
-            .saturating_mul(value_count(&self.page_rate))
-    }
-
-    // How many combinations of all settings but the frames there are, up to the greatest number of 64 bits.
-    pub(crate) fn curve_count(&self) -> usize
-        ensures { result ≡ saturated (curves_of self.now) }
-    {
-        self.count_of_three()
-            .saturating_mul(value_count(&self.rebalance)) as usize
     }
 }

@@ -1,102 +1,103 @@
-//! The runs of a sweep, and which of them a curve joins.
-ghost use Rattle.std.specs.Prelude.{◌≡◌, ◌<◌, IfOk, Some};
-ghost use Rattle.vm_sweep.specs.SweptRuns.{combinations, machine_count, measured, places_of, run_at, values_of};
+//! The runs of a sweep, and what those come to that differ in their seeds.
+ghost use Rattle.std.specs.Prelude.{◌≡◌, ◌<◌, ◌/◌, IfOk, length, map, option_copied};
+ghost use Rattle.vm_sweep.specs.SweptRuns.{frames_of, point_of, points_of, runs_at};
 
+use crate::median::over_seeds;
+use crate::points::SweptPoint;
 use std::alloc::{AllocError, Global};
 
-/// What is drawn of a run: its settings, and what came of them.
+/// What is drawn of a run: its machine, and what came of it.
 #[derive(Clone, Copy, Debug)]
-pub struct SweptRun {
+pub(crate) struct SweptRun {
     /// Frames of the machine.
-    pub frames: u32,
-    /// Pages of the swap area.
-    pub swap: u32,
-    /// The tax on idle memory, in hundredths of a percent.
-    pub tax: u32,
-    /// The most frames that a guest gives up by paging in a boundary.
-    pub page_rate: u32,
-    /// The most pages that a boundary moves from guest to guest.
-    pub rebalance: u32,
+    pub(crate) frames: u32,
     /// Frames paged and pages evicted, their sum.
-    pub moved: u64,
+    pub(crate) moved: u64,
     /// Guests blocked or stalled, summed over the epochs.
-    pub waited: u64,
+    pub(crate) waited: u64,
 }
 
-// What a curve shows of each run.
-#[derive(Clone, Copy)]
-pub(crate) enum Measure {
-    // frames paged and pages evicted
-    Moved,
-    // guests blocked or stalled
-    Waited,
-}
-
-fn measured(measure: Measure, run: &SweptRun) -> u64
-    ensures { result ≡ measured measure run.now }
+fn moved_of(run: &SweptRun) -> u64
+    ensures { result ≡ run.now.moved }
 {
-    match measure {
-        Measure::Moved => run.moved,
-        Measure::Waited => run.waited,
+    run.moved
+}
+
+fn waited_of(run: &SweptRun) -> u64
+    ensures { result ≡ run.now.waited }
+{
+    run.waited
+}
+
+// What runs moved.
+fn all_moved(alloc: Global, runs: &[SweptRun]) -> Result<Vec<u64>, AllocError>
+    ensures { IfOk result (λ numbers. numbers.items ≡ map (λ run. run.moved) runs.now) }
+{
+    let mut numbers = Vec::with_capacity(alloc, runs.len())?;
+    for run in runs {
+        numbers.push(moved_of(run))?;
+    }
+    Ok(numbers)
+}
+
+// How many guests waited in each run.
+fn all_waited(alloc: Global, runs: &[SweptRun]) -> Result<Vec<u64>, AllocError>
+    ensures { IfOk result (λ numbers. numbers.items ≡ map (λ run. run.waited) runs.now) }
+{
+    let mut numbers = Vec::with_capacity(alloc, runs.len())?;
+    for run in runs {
+        numbers.push(waited_of(run))?;
+    }
+    Ok(numbers)
+}
+
+fn frames_of(run: Option<&SweptRun>) -> u32
+    ensures { result ≡ frames_of (option_copied run.entry) }
+{
+    match run {
+        Some(run) => run.frames,
+        None => 0,
     }
 }
 
-// How many machines have a run for each combination.
-pub(crate) fn machine_count(runs: &[SweptRun], curves: usize) -> usize
-    ensures { result ≡ machine_count runs.now curves }
+// What is drawn of the runs of a machine and a combination.
+fn point_of(alloc: Global, runs: &[SweptRun]) -> Result<SweptPoint, AllocError>
+    ensures { IfOk result (λ point. point ≡ point_of runs.now) }
 {
-    runs.len().checked_div(curves).unwrap_or(0)
+    Ok(SweptPoint {
+        frames: frames_of(runs.first()),
+        moved: over_seeds(all_moved(alloc, runs)?),
+        waited: over_seeds(all_waited(alloc, runs)?),
+    })
 }
 
-// The runs of the first machine, one for each combination.
-pub(crate) fn combinations(runs: &[SweptRun], curves: usize) -> &[SweptRun]
-    ensures { result.now ≡ combinations runs.now curves }
+// The runs of a machine and a combination.
+fn runs_at(runs: &[SweptRun], seeds: usize, point: usize) -> &[SweptRun]
+    requires { point < length runs.now / seeds }
+    ensures { result.now ≡ runs_at runs.now seeds point }
 {
-    &runs[..curves.min(runs.len())]
+    let first = point * seeds;
+    &runs[first..first + seeds]
 }
 
-// The run of a machine and a combination.
-fn run_at(runs: &[SweptRun], curves: usize, machine: usize, curve: usize) -> SweptRun
-    requires machine { machine < machine_count runs.now curves }
-    requires curve { curve < curves }
-    ensures { run_at runs.now curves machine curve ≡ Some result }
+// How many points there are.
+fn point_count(runs: &[SweptRun], seeds: usize) -> usize
+    ensures { result ≡ length runs.now / seeds }
 {
-    runs[machine * curves + curve]
+    runs.len().checked_div(seeds).unwrap_or(0)
 }
 
-// What a combination has on each machine.
-pub(crate) fn values_of(
+/// What is drawn of so many runs each.
+pub(crate) fn points_of(
     alloc: Global,
-    measure: Measure,
+    seeds: usize,
     runs: &[SweptRun],
-    curves: usize,
-    curve: usize,
-) -> Result<Vec<Option<u64>>, AllocError>
-    requires { curve < curves }
-    ensures { IfOk result (λ values. values.items ≡ values_of measure runs.now curves curve) }
+) -> Result<Vec<SweptPoint>, AllocError>
+    ensures { IfOk result (λ points. points.items ≡ points_of seeds runs.now) }
 {
-    let mut values = Vec::new(alloc);
-    for machine in 0..machine_count(runs, curves) {
-        let run = run_at(runs, curves, machine, curve);
-        values.push(Some(measured(measure, &run)))?;
+    let mut points = Vec::new(alloc);
+    for point in 0..point_count(runs, seeds) {
+        points.push(point_of(alloc, runs_at(runs, seeds, point))?)?;
     }
-    Ok(values)
-}
-
-// The frames of each machine.
-pub(crate) fn places_of(
-    alloc: Global,
-    runs: &[SweptRun],
-    curves: usize,
-    curve: usize,
-) -> Result<Vec<u64>, AllocError>
-    requires { curve < curves }
-    ensures { IfOk result (λ places. places.items ≡ places_of runs.now curves curve) }
-{
-    let mut places = Vec::new(alloc);
-    for machine in 0..machine_count(runs, curves) {
-        let run = run_at(runs, curves, machine, curve);
-        places.push(u64::from(run.frames))?;
-    }
-    Ok(places)
+    Ok(points)
 }

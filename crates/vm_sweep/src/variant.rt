@@ -32,7 +32,8 @@ pub(crate) struct Variant {
     pub(crate) is_seeded: bool,
 }
 
-fn percent_of(changes: &Changes) -> Option<u32>
+/// The percentage of its size that each guest has as its minimum, if there is one.
+pub(crate) fn percent_of(changes: &Changes) -> Option<u32>
     ensures { result ≡ changes.now.percent }
 {
     changes.percent

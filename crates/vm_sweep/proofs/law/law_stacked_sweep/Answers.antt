@@ -4,6 +4,6 @@ use Rattle.vm_sweep.specs.SweepDrawing.{sweep_drawing}
 use Rattle.vm_sweep.proofs.law.law_stacked_sweep.Goals as goal
 
 pub returns : goal.returns
-returns c rebalancing page runs curves =
-    let drawing = sweep_drawing rebalancing page runs curves in
-    stacked drawing.along drawing.axis 70 drawing.charts (sweep-has_words runs curves)
+returns c lists page names points =
+    let drawing = sweep_drawing lists page names points in
+    stacked drawing.along drawing.axis 70 drawing.charts (sweep-has_words lists.seeds names points)

@@ -1,0 +1,6 @@
+use Rattle.vm_sweep.specs.declared.names.Part.TheVariants.{Minimum}
+use Rattle.vm_sweep.proofs.SpreadLemmas.{next-in_range}
+use Rattle.vm_sweep.proofs.names.push_minimums.Goals as goal
+
+pub loop-number-preserved : goal.loop-number-preserved
+loop-number-preserved c = next-in_range Minimum c.loop-number.number _ _ _ c.loop-number.invariant c.in_ok-push.ensures.items
