@@ -1,5 +1,7 @@
+pub mod Input
 pub mod Words
 pub mod runs
+pub mod vmcheck
 pub mod vmlog
 pub mod vmmem
 pub mod vmseries

@@ -49,13 +49,14 @@ within least greatest (Some n) e =
     let parts = both _ _ e in
     (leb-true _ _ parts.0, leb-true _ _ parts.1)
 
-anything : (number : Option ℕ) → IfSome number (LiesIn kind.Text)
-anything None = tt
-anything (Some n) = tt
+anything : (kind : ValueKind) → ((n : ℕ) → LiesIn kind n) → (number : Option ℕ) → IfSome number (LiesIn kind)
+anything kind all None = tt
+anything kind all (Some n) = all n
 
 lies-in : (kind : ValueKind) (text : Option Text) → option_map_or (fits kind) text true ≡ true → IfSome (option_and_then number_in text) (LiesIn kind)
 lies-in kind None e = tt
-lies-in kind.Text (Some text) e = anything (number_in text)
+lies-in kind.Text (Some text) e = anything kind.Text (λ n. tt) (number_in text)
+lies-in kind.Texts (Some text) e = anything kind.Texts (λ n. tt) (number_in text)
 lies-in (kind.Number least greatest) (Some text) e = within least greatest (number_in text) e
 
 pub numbers-lie-in : (values : List ValueRule) (rows : List Row) → list_all (is_fit rows) values ≡ true → NumbersLieIn values rows

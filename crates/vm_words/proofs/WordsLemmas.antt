@@ -1,54 +1,72 @@
 -- Which words are taken, and what they ask for, as a parse of them says.
-use Rattle.std.proofs.Common.{◌≡◌, ◌∙◌, ◌++◌, ℕ, List, [], ◌∷◌, Result, Ok, Err, IfErr, IsErrAnd, ⊎_elim, refl, sym, ap, subst, true, false, map}
+use Rattle.std.proofs.Common.{◌≡◌, ◌∙◌, ◌++◌, ℕ, List, [], ◌∷◌, Bool, Result, Ok, Err, IfErr, IsErrAnd, ⊎_elim, refl, sym, ap, subst, true, false, map}
 use Rattle.std.specs.List.{list_all, list_any}
 use Rattle.std.proofs.lemmas.List.Folds.{list_all-map}
-use Rattle.clap.specs.Simple.{filled_from, help_rule}
+use Rattle.clap.specs.Simple.{filled_from, help_rule, version_rule}
 use Rattle.clap.specs.Walk.{is_early_multiple}
 use Rattle.clap.specs.Words.{App, HasKind, HasMatchesOf, Kinds, Row, Rule, Text, fault_of, found_of, is_simple, is_simple_and_free, kind_of, rows_of}
 use Rattle.clap.specs.declared.error.Error.{Error}
+use Rattle.clap.specs.declared.error.kind.ErrorKind.{ErrorKind}
 use Rattle.clap.specs.declared.error.kind.ErrorKind.TheVariants.{OutOfMemory}
 use Rattle.clap.specs.declared.parser.matches.ArgMatches.{ArgMatches}
 use Rattle.clap.proofs.WalkLemmas.{list_any-map}
 use Rattle.vm_words.specs.declared.command_line.CommandLine.{CommandLine}
-use Rattle.vm_words.specs.Words.{AreTaken, FlagRule, Line, ValueRule, asked, command_line, flag_option, flag_rule, is_beside, is_fit, line_of, value_option, value_rule}
+use Rattle.vm_words.specs.Words.{AreTaken, FlagRule, Line, ValueRule, asked, command_line, file_options, flag_option, flag_rule, is_beside, is_fit, line_of, value_option, value_rule}
 
--- the options, and the flag for help that `clap` adds
-abbrev options : List FlagRule → List ValueRule → List Rule
-options flags values = (map flag_option flags ++ map value_option values) ++ help_rule ∷ []
+-- a list with a fault is not empty
+pub has-fault : (kind : ErrorKind) (kinds : List ErrorKind) → kind ∷ kinds ≡ [] → ⊥
+has-fault kind kinds none = absurd cc
 
-plain-options : (flags : List FlagRule) (values : List ValueRule) → list_all (λ a. a.is_simple) (map flag_option flags ++ map value_option values) ≡ true
+-- the options, and the flags for help and the version that `clap` adds
+abbrev options : List FlagRule → List ValueRule → Bool → List Rule
+options flags values file =
+    (((map flag_option flags ++ map value_option values) ++ file_options file) ++ help_rule ∷ []) ++ version_rule ∷ []
+
+plain-options : (flags : List FlagRule) (values : List ValueRule) (file : Bool)
+    → list_all (λ a. a.is_simple) ((map flag_option flags ++ map value_option values) ++ file_options file) ≡ true
 unfolding flag_option value_option
-plain-options [] [] = refl
-plain-options [] (v ∷ vs) = plain-options [] vs
-plain-options (f ∷ fs) vs = plain-options fs vs
+plain-options [] [] true = refl
+plain-options [] [] false = refl
+plain-options [] (v ∷ vs) file = plain-options [] vs file
+plain-options (f ∷ fs) vs file = plain-options fs vs file
 
-simple-options : (i : ℕ) (flags : List FlagRule) (values : List ValueRule) → list_all (λ a. a.is_simple) (filled_from i (options flags values)) ≡ true
+simple-options : (i : ℕ) (flags : List FlagRule) (values : List ValueRule) (file : Bool)
+    → list_all (λ a. a.is_simple) (filled_from i (options flags values file)) ≡ true
 unfolding flag_option value_option
-simple-options i [] [] = refl
-simple-options i [] (v ∷ vs) = simple-options i [] vs
-simple-options i (f ∷ fs) vs = simple-options i fs vs
+simple-options i [] [] true = refl
+simple-options i [] [] false = refl
+simple-options i [] (v ∷ vs) file = simple-options i [] vs file
+simple-options i (f ∷ fs) vs file = simple-options i fs vs file
 
-free-options : (i : ℕ) (flags : List FlagRule) (values : List ValueRule) → list_all (λ a. a.is_free) (filled_from i (options flags values)) ≡ true
+free-options : (i : ℕ) (flags : List FlagRule) (values : List ValueRule) (file : Bool)
+    → list_all (λ a. a.is_free) (filled_from i (options flags values file)) ≡ true
 unfolding flag_option value_option
-free-options i [] [] = refl
-free-options i [] (v ∷ vs) = free-options i [] vs
-free-options i (f ∷ fs) vs = free-options i fs vs
+free-options i [] [] true = refl
+free-options i [] [] false = refl
+free-options i [] (v ∷ vs) file = free-options i [] vs file
+free-options i (f ∷ fs) vs file = free-options i fs vs file
 
--- none of them is positional
-named-options : (n i : ℕ) (flags : List FlagRule) (values : List ValueRule) → list_any (is_early_multiple n) (filled_from i (options flags values)) ≡ false
+-- none of them takes several values by its place
+single-options : (n i : ℕ) (flags : List FlagRule) (values : List ValueRule) (file : Bool)
+    → list_any (is_early_multiple n) (filled_from i (options flags values file)) ≡ false
 unfolding flag_option value_option
-named-options n i [] [] = refl
-named-options n i [] (v ∷ vs) = named-options n i [] vs
-named-options n i (f ∷ fs) vs = named-options n i fs vs
+single-options n i [] [] true = refl
+single-options n i [] [] false = refl
+single-options n i [] (v ∷ vs) file = single-options n i [] vs file
+single-options n i (f ∷ fs) vs file = single-options n i fs vs file
 
 is-simple : (line : Line) → is_simple (command_line line) ≡ true
 unfolding command_line
 is-simple line =
-    rw (plain-options line.flags line.values, simple-options 1 line.flags line.values, named-options _ 1 line.flags line.values) refl
+    rw (
+      plain-options line.flags line.values line.takes_file,
+      simple-options 1 line.flags line.values line.takes_file,
+      single-options _ 1 line.flags line.values line.takes_file,
+    ) refl
 
 is-free : (line : Line) → is_simple_and_free (command_line line) ≡ true
 unfolding command_line
-is-free line = rw (is-simple line, free-options 1 line.flags line.values) refl
+is-free line = rw (is-simple line, free-options 1 line.flags line.values line.takes_file) refl
 
 module _ (line : CommandLine) (app : App) (words : List Text) (is : app ≡ command_line (line_of line)) where
   -- the matches of a parse are what the words ask for

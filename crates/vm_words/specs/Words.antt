@@ -1,12 +1,13 @@
 -- A command line of flags and values: which words it takes, and what they ask for.
-use Rattle.std.specs.Prelude.{◌≡◌, ◌⊎◌, ◌≤◌, ◌&&◌, ◌++◌, ◌^◌, ⊤, ℕ, Bool, true, false, List, [], ◌∷◌, Option, Some, None, IfSome, codes, if◌then◌else◌, map, nat_le, nat_lt, option_and_then, option_map}
+use Rattle.std.specs.Prelude.{◌≡◌, ◌⊎◌, ◌≤◌, ◌&&◌, ◌++◌, ◌^◌, ⊤, ℕ, Bool, true, false, List, [], ◌∷◌, Option, Some, None, IfSome, codes, if◌then◌else◌, map, unwrap_or, nat_le, nat_lt, option_and_then, option_map}
 use Rattle.std.specs.List.{list_all, list_any}
 use Rattle.std.specs.Option.{option_map_or}
 use Rattle.std.specs.Str.{bytes_eq}
 use Rattle.std.specs.Str.Parse.{digits_value, without_leading_plus}
-use Rattle.clap.specs.Words.{App, Row, Rule, Text, fault_of, first_of, matches_of, new_app, new_rule}
+use Rattle.clap.specs.Words.{App, Row, Rule, Text, all_of, fault_of, first_of, matches_of, new_app, new_rule}
 use Rattle.clap.specs.ValueTests.{is_numeral}
-use Rattle.clap.specs.declared.builder.action.ArgAction.TheVariants.{Set, SetTrue}
+use Rattle.clap.specs.declared.builder.action.ArgAction.{ArgAction}
+use Rattle.clap.specs.declared.builder.action.ArgAction.TheVariants.{Append, Set, SetTrue}
 use Rattle.clap.specs.declared.builder.value_parser.ValueParser.{ValueParser}
 use Rattle.clap.specs.declared.builder.value_parser.ValueParser.TheVariants.{Unsigned}
 use Rattle.vm_words.specs.declared.command_line.CommandLine.{CommandLine}
@@ -30,6 +31,8 @@ pub record Line : Type 0 where
   pub program : Text
   pub flags : List FlagRule
   pub values : List ValueRule
+  -- it may be given a file in place of standard input
+  pub takes_file : Bool
 
 abbrev pub flag_rule : Flag → FlagRule
 flag_rule flag = record { name = flag.name.now; beside = option_map (λ other. other.now) flag.beside }
@@ -42,6 +45,7 @@ line_of line = record {
   program = line.program.now;
   flags = map flag_rule line.flags.now;
   values = map value_rule line.values.now;
+  takes_file = line.takes_file;
 }
 
 -- ---- the same for `clap`
@@ -55,22 +59,44 @@ flag_option flag = record (new_rule flag.name) {
 
 abbrev pub parser_for : ValueKind → Option ValueParser
 parser_for kind.Text = None
+parser_for kind.Texts = None
 parser_for (kind.Number least greatest) = Some (Unsigned least greatest)
+
+-- what is done with a value that is given: only texts may be given again
+abbrev pub action_for : ValueKind → ArgAction
+action_for kind.Texts = Append
+action_for kind.Text = Set
+action_for (kind.Number least greatest) = Set
 
 -- `--NAME VALUE`
 unfoldable pub value_option : ValueRule → Rule
 value_option value = record (new_rule value.name) {
   long = Some value.name;
   value_names = 1;
-  action = Some Set;
+  action = Some (action_for value.kind);
   parser = parser_for value.kind;
 }
+
+-- `FILE`
+abbrev pub file_option : Rule
+file_option = record (new_rule (codes "FILE")) { value_names = 1; action = Some Set }
+
+abbrev pub file_options : Bool → List Rule
+file_options true = file_option ∷ []
+file_options false = []
+
+-- a command that `--version` is known to
+abbrev pub versioned : App → App
+versioned app = record app { top = record app.top { has_version = true } }
 
 abbrev pub with_options : App → List Rule → App
 with_options app options = record app { top = record app.top { rules = app.top.rules ++ options } }
 
+-- `PROGRAM [--FLAG] .. [--VALUE NAME] .. [FILE]`, beside `--help` and `--version`
 unfoldable pub command_line : Line → App
-command_line line = with_options (with_options (new_app line.program) (map flag_option line.flags)) (map value_option line.values)
+command_line line =
+    let named = with_options (versioned (new_app line.program)) (map flag_option line.flags) in
+    with_options (with_options named (map value_option line.values)) (file_options line.takes_file)
 
 -- ---- what words ask for
 
@@ -78,9 +104,13 @@ command_line line = with_options (with_options (new_app line.program) (map flag_
 unfoldable pub asked : Line → List Text → List Row
 asked line words = matches_of (command_line line) words
 
--- the text of a value that is given
+-- the text of a value that is given; of several the first
 unfoldable pub text_of : Text → List Row → Option Text
 text_of name rows = first_of name rows
+
+-- all texts of a value that is given, in order
+unfoldable pub texts_of : Text → List Row → List Text
+texts_of name rows = unwrap_or (all_of name rows) []
 
 -- a flag that was given has this text as its value
 abbrev pub says_true : Option Text → Bool
@@ -101,6 +131,10 @@ number_in text =
 unfoldable pub number_of : Text → List Row → Option ℕ
 number_of name rows = option_and_then number_in (text_of name rows)
 
+-- the file that is given in place of standard input
+abbrev pub file_of : List Row → Option Text
+file_of rows = text_of (codes "FILE") rows
+
 -- ---- which words are taken
 
 -- both this flag and the one that may not stand beside it are given
@@ -113,6 +147,7 @@ is_within least greatest (Some n) = nat_le least n && nat_le n greatest
 
 abbrev pub fits : ValueKind → Text → Bool
 fits kind.Text text = true
+fits kind.Texts text = true
 fits (kind.Number least greatest) text = is_within least greatest (number_in text)
 
 -- a value that is given is what it has to be
@@ -138,6 +173,7 @@ IsStatusOfWords line words status = ((status ≡ 2) × (AreTaken line words → 
 
 abbrev pub LiesIn : ValueKind → ℕ → Type 0
 LiesIn kind.Text n = ⊤
+LiesIn kind.Texts n = ⊤
 LiesIn (kind.Number least greatest) n = (least ≤ n) × (n ≤ greatest)
 
 -- each number that is given lies in its range

@@ -1,7 +1,7 @@
 //! What is said on standard error, and the exit status that goes with it.
 ghost use Rattle.std.specs.Prelude.{◌≡◌};
 
-use crate::command_line::CommandLine;
+use crate::command_line::{CommandLine, FILE, ValueKind};
 use std::fmt;
 use std::fmt::Display;
 
@@ -30,6 +30,12 @@ impl<'a> Display for Usage<'a> {
         }
         for value in line.values {
             write!(f, " [--{} {}]", value.name, value.value_name)?;
+            if matches!(value.kind, ValueKind::Texts) {
+                f.write_str("..")?;
+            }
+        }
+        if line.takes_file {
+            write!(f, " [{FILE}]")?;
         }
         write!(f, " < {} > {}", line.takes, line.gives)
     }
@@ -52,6 +58,30 @@ impl CommandLine {
         let program = self.program;
         let _ = eprintln!(system; "{program}: read failed");
         BAD_SYSTEM
+    }
+
+    /// Says that a file can't be opened, and gives the status to end with.
+    pub fn cannot_open(&self, system: &impl Eprint, path: &str) -> u8
+        ensures { result ≡ 3 }
+    {
+        let program = self.program;
+        let _ = eprintln!(system; "{program}: {path}: cannot be opened");
+        BAD_SYSTEM
+    }
+
+    /// Says what of the input has more bytes than are read of it, and gives the status to end with.
+    pub fn too_long(&self, system: &impl Eprint, what: &str, most: usize) -> u8
+        ensures { result ≡ 3 }
+    {
+        let program = self.program;
+        let _ = eprintln!(system; "{program}: {what} has more than {most} bytes");
+        BAD_SYSTEM
+    }
+
+    /// Says that standard input is read, to somebody who sits at a terminal and may not know that the program waits for a text.
+    pub fn tell_reading(&self, system: &impl Eprint) {
+        let program = self.program;
+        let _ = eprintln!(system; "{program}: reading standard input");
     }
 
     /// Says that the output could not be written, and gives the status to end with.

@@ -1,9 +1,9 @@
 //! What the words of a command line ask for.
-ghost use Rattle.std.specs.Prelude.{◌≡◌, List, option_map};
+ghost use Rattle.std.specs.Prelude.{◌≡◌, List, [], map, option_map, unwrap_or};
 ghost use Rattle.clap.specs.Words.{Row, found_of, rows_of};
-ghost use Rattle.vm_words.specs.Words.{fits, has_flag, is_fit, number_in, number_of, says_true, text_of, value_rule};
+ghost use Rattle.vm_words.specs.Words.{file_of, fits, has_flag, is_fit, number_in, number_of, says_true, text_of, texts_of, value_rule};
 
-use crate::command_line::{ValueKind, ValueWord};
+use crate::command_line::{FILE, ValueKind, ValueWord};
 use clap::ArgMatches;
 use std::marker::Model;
 
@@ -42,6 +42,7 @@ fn fits(kind: &ValueKind, text: &str) -> bool
 {
     match kind {
         ValueKind::Text => true,
+        ValueKind::Texts => true,
         ValueKind::Number { least, greatest } => match number_in(text) {
             Some(number) => *least <= number && number <= *greatest,
             None => false,
@@ -66,11 +67,18 @@ impl<'a> Request<'a> {
         says_true(self.text(name))
     }
 
-    /// The value of this name, as it was written, where it is among the words.
+    /// The value of this name, as it was written, where it is among the words; of several the first.
     pub fn text(&self, name: &str) -> Option<&'a str>
         ensures { option_map (λ text. text.now) result ≡ text_of name.now self.now }
     {
         self.matches.get_str(name)
+    }
+
+    /// All values of this name, as they were written and in the order in which they stand among the words; `None` where there is none.
+    pub fn texts(&self, name: &str) -> Option<&[&'a str]>
+        ensures { unwrap_or (option_map (λ texts. map (λ text. text.now) texts.now) result) [] ≡ texts_of name.now self.now }
+    {
+        self.matches.get_strs(name)
     }
 
     /// The number that the value of this name is, where it is among the words.
@@ -79,6 +87,13 @@ impl<'a> Request<'a> {
         ensures { result ≡ number_of name.now self.now }
     {
         number_in(self.text(name)?)
+    }
+
+    /// The file that is given in place of standard input, as it was written. `-` is one of them.
+    pub fn file(&self) -> Option<&'a str>
+        ensures { option_map (λ text. text.now) result ≡ file_of self.now }
+    {
+        self.text(FILE)
     }
 
     // Whether a value is what it has to be, where it is given.

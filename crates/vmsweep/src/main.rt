@@ -1,6 +1,6 @@
-//! Runs the configuration on standard input once for each combination of listed values, and writes a table with a record for each
-//! run, or for each run and guest, or a drawing to standard output: `vmsweep [--frames LIST] [--swap LIST] [--tax LIST]
-//! [--page-rate LIST] [--rebalance LIST] [--guests | --svg] [--progress] [--workers N]`.
+//! Runs the configuration in FILE or on standard input once for each combination of listed values, and writes a table with a record for
+//! each run, or for each run and guest, or a drawing to standard output: `vmsweep [--frames LIST] [--swap LIST] [--tax LIST]
+//! [--page-rate LIST] [--rebalance LIST] [--guests | --svg] [--progress] [--workers N] [FILE]`.
 #![tactic(auto)]
 
 use std::process::ExitCode;

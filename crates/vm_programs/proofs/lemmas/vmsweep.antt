@@ -1,6 +1,8 @@
+pub mod Guests
 pub mod Range
-pub mod Refusals
 pub mod Reading
 pub mod Status
+pub mod Swept
 pub mod Read
 pub mod Taken
+pub mod Counts

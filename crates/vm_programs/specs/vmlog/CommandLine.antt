@@ -1,15 +1,16 @@
--- Which words the command line `vmlog [--every N]` takes, and what they ask for.
-use Rattle.std.specs.Prelude.{ℕ, List, [], ◌∷◌, codes, unwrap_or}
+-- Which words the command line `vmlog [--every N] [FILE]` takes, and what they ask for.
+use Rattle.std.specs.Prelude.{ℕ, true, List, [], ◌∷◌, codes, unwrap_or}
 use Rattle.clap.specs.Words.{Row, Text}
 use Rattle.vm_words.specs.declared.command_line.ValueKind.TheVariants.{Number}
 use Rattle.vm_words.specs.Words.{AreTaken as AreTakenBy, Line, asked, number_of}
 
--- `vmlog [--every N]`
+-- `vmlog [--every N] [FILE]`
 abbrev pub log_line : Line
 log_line = record {
   program = codes "vmlog";
   flags = [];
   values = record { name = codes "every"; kind = Number 1 10000 } ∷ [];
+  takes_file = true;
 }
 
 -- words that are taken, of which the first is the program's name

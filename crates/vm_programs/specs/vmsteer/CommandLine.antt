@@ -1,12 +1,12 @@
--- Which words the command line `vmsteer [--csv | --svg]` takes, and what they ask for.
-use Rattle.std.specs.Prelude.{List, [], ◌∷◌, Some, codes, if◌then◌else◌}
+-- Which words the command line `vmsteer [--csv | --svg] [FILE]` takes, and what they ask for.
+use Rattle.std.specs.Prelude.{true, List, [], ◌∷◌, Some, codes, if◌then◌else◌}
 use Rattle.clap.specs.Words.{Row, Text}
 use Rattle.vm_programs.specs.declared.vmsteer.output.Output.{Output}
 use Rattle.vm_programs.specs.declared.vmsteer.output.Output.TheVariants.{Drawing, Samples}
 use Rattle.vm_steer.specs.declared.form.Form.TheVariants.{Orders, Table}
 use Rattle.vm_words.specs.Words.{AreTaken as AreTakenBy, Line, asked, has_flag}
 
--- `vmsteer [--csv | --svg]`
+-- `vmsteer [--csv | --svg] [FILE]`
 abbrev pub vmsteer_line : Line
 vmsteer_line = record {
   program = codes "vmsteer";
@@ -15,6 +15,7 @@ vmsteer_line = record {
       ∷ record { name = codes "svg"; beside = Some (codes "csv") }
       ∷ [];
   values = [];
+  takes_file = true;
 }
 
 -- words that are taken, of which the first is the program's name

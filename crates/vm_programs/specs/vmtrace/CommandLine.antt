@@ -1,12 +1,13 @@
 -- The command line of `vmtrace`, and what it asks for.
-use Rattle.std.specs.Prelude.{◌≤◌, List, [], ◌∷◌, None, codes, not, unwrap_or}
+use Rattle.std.specs.Prelude.{◌≤◌, true, List, [], ◌∷◌, None, codes, not, unwrap_or}
 use Rattle.std.specs.Option.{ForSome}
 use Rattle.clap.specs.Words.{Row, Text}
 use Rattle.vm_words.specs.declared.command_line.ValueKind.TheVariants.{Number, Text as AnyText}
 use Rattle.vm_words.specs.Words.{Line, asked, has_flag, number_of, text_of}
 use Rattle.vm_import.specs.Settings.{Settings}
 
--- `vmtrace [--name NAME] [--min PAGES] [--interval LINES] [--quantum STEPS] [--skip LINES] [--steps N] [--no-code]`
+-- `vmtrace [--name NAME] [--min PAGES] [--interval LINES] [--quantum STEPS] [--skip LINES] [--steps N] [--no-code]
+-- [FILE]`
 unfoldable pub trace_line : Line
 trace_line = record {
   program = codes "vmtrace";
@@ -19,6 +20,7 @@ trace_line = record {
       ∷ record { name = codes "skip"; kind = Number 0 18446744073709551615 }
       ∷ record { name = codes "steps"; kind = Number 1 1000000 }
       ∷ [];
+  takes_file = true;
 }
 
 -- what stands for each argument in words that are taken, of which the first is the program's name

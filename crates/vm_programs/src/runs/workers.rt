@@ -9,7 +9,7 @@ use vm_words::{Request, ValueKind, ValueWord};
 pub const WORKERS: ValueWord = ValueWord {
     name: "workers",
     value_name: "N",
-    help: "On how many threads the guests run, 1 to 64",
+    help: "On how many threads the guests run, 1 to 64; 1 where it isn't said",
     kind: ValueKind::Number {
         least: 1,
         greatest: MAX_WORKERS as u64,

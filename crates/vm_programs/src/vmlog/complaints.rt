@@ -3,6 +3,7 @@ ghost use Rattle.std.specs.Prelude.{◌≡◌};
 ghost use Rattle.vm_programs.specs.vmlog.Statuses.{status_of};
 
 use super::line::LINE;
+use crate::input::MOST_BYTES;
 use vm_log::{PlanError, Planned};
 
 // Says which limit ended the reading, if one did, and how many bad samples were passed over, if any were.
@@ -18,13 +19,14 @@ pub(crate) fn tell(system: &impl Eprint, planned: Planned) {
     }
 }
 
-// Says why there is no configuration, and gives the status to end with. A log that is too long is one that can't be read.
+// Says why there is no configuration, and gives the status to end with.
 pub(crate) fn complain(system: &impl Eprint, error: PlanError) -> u8
     ensures { result ≡ status_of error }
 {
     match error {
         PlanError::Policy(fault) => LINE.refuse(system, fault),
-        PlanError::Read | PlanError::TooLong => LINE.read_failed(system),
+        PlanError::Read => LINE.read_failed(system),
+        PlanError::TooLong => LINE.too_long(system, "the policy or a sample", MOST_BYTES),
         PlanError::Write => LINE.write_failed(system),
         PlanError::Memory => LINE.no_memory(system),
     }

@@ -14,6 +14,9 @@ pub fn law_words()
     ensures no_value { AreRefused (codes "--every" ∷ []) }
     ensures twice { AreRefused (codes "--every=1" ∷ codes "--every=1" ∷ []) }
     ensures other { AreRefused (codes "--csv" ∷ []) }
-    ensures stray { AreRefused (codes "policy" ∷ []) }
+    ensures file { AskFor (codes "host.log" ∷ []) 1 }
+    ensures file_behind { AskFor (codes "--every=6" ∷ codes "host.log" ∷ []) 6 }
+    ensures two_files { AreRefused (codes "host.log" ∷ codes "policy" ∷ []) }
     ensures help { AreRefused (codes "--help" ∷ []) }
+    ensures version { AreRefused (codes "--version" ∷ []) }
 {}

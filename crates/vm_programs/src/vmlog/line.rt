@@ -12,11 +12,16 @@ pub const EVERY: ValueWord = ValueWord {
     },
 };
 
-/// `vmlog [--every N] < LOG > CONFIGURATION`
+/// `vmlog [--every N] [FILE] < LOG > CONFIGURATION`
 pub const LINE: CommandLine = CommandLine {
     program: "vmlog",
     takes: "LOG",
     gives: "CONFIGURATION",
+    takes_file: true,
+    about: "Makes a configuration of a recorded libvirt host, with a guest for each of its domains. It reads a\n\
+        policy (JSON) and what virsh domstats told, sample by sample, from FILE or standard input, and writes\n\
+        the configuration (JSON) to standard output.",
+    example: "Example:\n  vmlog --every 6 examples/recorded/host.log > host.json",
     flags: &[],
     values: &[EVERY],
 };

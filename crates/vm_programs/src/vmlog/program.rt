@@ -1,5 +1,5 @@
 //! From the words of the command line to the exit status.
-ghost use Rattle.std.specs.Prelude.{◌≡◌, ◌≢◌, ◌<◌, ◌≤◌, ℕ, map, string_bytes};
+ghost use Rattle.std.specs.Prelude.{◌≡◌, ◌≢◌, ◌<◌, ◌≤◌, ℕ, map, string_bytes, IfErr, IfOk};
 ghost use Rattle.std.specs.Io.KnownBytes.{Keeps};
 ghost use Rattle.std.specs.Process.{exit_status};
 ghost use Rattle.vm_programs.specs.vmlog.CommandLine.{AreTaken, every_by};
@@ -9,9 +9,11 @@ ghost use Rattle.vm_streams.specs.Streams.{NewlyFailed};
 use super::asked::every_of;
 use super::complaints::{complain, tell};
 use super::line::LINE;
+use crate::input::open_input;
 use std::io;
+use std::io::{Input, IsTerminal};
 use std::process::ExitCode;
-use std::rt::Env;
+use std::rt::{Env, Files};
 use vm_log::plan_log;
 use vm_streams::{Sink, Source, Watched};
 use vm_words::DONE;
@@ -107,15 +109,38 @@ pub fn status<R: Source, W: Sink>(
     }
 }
 
-/// Reads the host log on standard input, a policy and what `virsh domstats` tells sample by sample, and writes a configuration of the
-/// recorded host to standard output.
+// Opens what the words say is read, does what they ask for, and gives the status to end with.
+fn obey<RT: Env + Input + Files + Print + Eprint + AllocGlobal>(
+    rt: &RT,
+    words: &[String],
+) -> Result<u8, u8>
+where
+    RT::Reader: IsTerminal,
+    ensures done { IfOk result (λ status. status ≤ 3) }
+    ensures refused { IfErr result (λ status. status ≤ 3) }
+{
+    let request = LINE.request(rt, words)?;
+    let mut reader = Watched::new(open_input(rt, &LINE, request.file())?);
+    let mut writer = Watched::new(io::writer(rt));
+    Ok(plan_by(rt, every_of(&request), &mut reader, &mut writer))
+}
+
+/// Reads a host log, a policy and what `virsh domstats` tells sample by sample, and writes a configuration of the recorded host to
+/// standard output.
 ///
-/// The words are those of `vmlog [--every N]`: how many samples make an epoch. They are read before the input. The exit code is that
-/// of [`status`].
-pub fn vmlog(rt: &(impl Env + Input + Print + Eprint + AllocGlobal)) -> ExitCode
+/// The words are those of `vmlog [--every N] [FILE]`: how many samples make an epoch. They are read before the input. FILE is read in
+/// place of standard input, which `-` stands for; where it can't be opened the exit code is 3 and nothing is written, and else it is
+/// that of [`status_for`] with that input.
+pub fn vmlog<RT: Env + Input + Files + Print + Eprint + AllocGlobal>(rt: &RT) -> ExitCode
+where
+    RT::Reader: IsTerminal,
     ensures known { exit_status result ≤ 3 }
 {
-    let mut reader = Watched::new(rt.reader());
-    let mut writer = Watched::new(io::writer(rt));
-    ExitCode::from(status(rt, &mut reader, &mut writer))
+    let words = match LINE.words(rt) {
+        Ok(words) => words,
+        Err(status) => return ExitCode::from(status),
+    };
+    match obey(rt, words.as_slice()) {
+        Ok(status) | Err(status) => ExitCode::from(status),
+    }
 }

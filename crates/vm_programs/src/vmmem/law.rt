@@ -12,4 +12,5 @@ pub fn law_words()
     ensures missing { AreTaken (codes "vmmem" ∷ codes "--workers" ∷ []) → ⊥ }
     ensures help { AreTaken (codes "vmmem" ∷ codes "--help" ∷ []) → ⊥ }
     ensures other { AreTaken (codes "vmmem" ∷ codes "x" ∷ []) → ⊥ }
+    ensures version { AreTaken (codes "vmmem" ∷ codes "--version" ∷ []) → ⊥ }
 {}

@@ -1,5 +1,5 @@
 //! From the words of the command line to the exit status.
-ghost use Rattle.std.specs.Prelude.{◌≡◌, ◌≢◌, ◌<◌, ◌≤◌, Bool, codes, map, string_bytes};
+ghost use Rattle.std.specs.Prelude.{◌≡◌, ◌≢◌, ◌<◌, ◌≤◌, Bool, codes, map, string_bytes, IfErr, IfOk};
 ghost use Rattle.std.specs.Io.KnownBytes.{Keeps};
 ghost use Rattle.std.specs.Process.{exit_status};
 ghost use Rattle.vm_programs.specs.runs.Statuses.{IsRefused};
@@ -13,12 +13,14 @@ ghost use Rattle.vm_words.specs.Words.{has_flag};
 
 use super::line::LINE;
 use super::writing::write_run;
-use crate::runs::{complain, complain_of_text};
+use crate::input::open_input;
+use crate::runs::{complain_of_text, read_text};
 use std::io;
+use std::io::{Input, IsTerminal};
 use std::process::ExitCode;
-use std::rt::Env;
+use std::rt::{Env, Files};
 use std::thread::Threads;
-use vm_sim::{Sink, Source, Watched, read_text};
+use vm_sim::{Sink, Source, Watched};
 use vm_words::{DONE, Request};
 
 // Does what was asked for, and gives the status to end with.
@@ -41,9 +43,9 @@ fn run_on<RT: Threads + Sync, R: Source, W: Sink>(
     ensures writer_failed { NewlyFailed (W.has_failed writer.old) (W.has_failed writer.new) → result ≡ 3 }
     ensures known { result ≤ 3 }
 {
-    let text = match read_text(system.alloc(), reader) {
+    let text = match read_text(&LINE, system, reader) {
         Ok(text) => text,
-        Err(error) => return complain(&LINE, system, error),
+        Err(status) => return status,
     };
     match write_run(rt, system.alloc(), request, &text, writer) {
         Ok(()) => DONE,
@@ -114,15 +116,41 @@ pub fn status<RT: Threads + Sync, R: Source, W: Sink>(
     }
 }
 
-/// Runs the guests that a configuration on standard input names, and writes what is seen of the host after each epoch to standard
-/// output, as comma-separated values (RFC 4180) or as a drawing (SVG).
+// Opens what the words say is read, does what they ask for, and gives the status to end with.
+fn obey<RT: Env + Input + Files + Print + Eprint + AllocGlobal + Threads + Sync>(
+    rt: &RT,
+    words: &[String],
+) -> Result<u8, u8>
+where
+    RT::Reader: IsTerminal,
+    ensures done { IfOk result (λ status. status ≤ 3) }
+    ensures refused { IfErr result (λ status. status ≤ 3) }
+{
+    let request = LINE.request(rt, words)?;
+    let mut reader = Watched::new(open_input(rt, &LINE, request.file())?);
+    let mut writer = Watched::new(io::writer(rt));
+    Ok(run_on(rt, rt, &request, &mut reader, &mut writer))
+}
+
+/// Runs the guests that a configuration names, and writes what is seen of the host after each epoch to standard output, as
+/// comma-separated values (RFC 4180) or as a drawing (SVG).
 ///
-/// The words are those of `vmseries [--svg] [--workers N]`: whether a drawing is wanted, and on how many threads the guests run at
-/// most, 1 to 64, and 1 where that isn't said. They are read before the input. The exit code is that of [`status`].
-pub fn vmseries(rt: &(impl Env + Input + Print + Eprint + AllocGlobal + Threads + Sync)) -> ExitCode
+/// The words are those of `vmseries [--svg] [--workers N] [FILE]`: whether a drawing is wanted, and on how many threads the guests run
+/// at most, 1 to 64, and 1 where that isn't said. They are read before the input. FILE is read in place of standard input, which `-`
+/// stands for; where it can't be opened the exit code is 3 and nothing is written, and else it is that of [`status_for`] with that
+/// input.
+pub fn vmseries<RT: Env + Input + Files + Print + Eprint + AllocGlobal + Threads + Sync>(
+    rt: &RT,
+) -> ExitCode
+where
+    RT::Reader: IsTerminal,
     ensures known { exit_status result ≤ 3 }
 {
-    let mut reader = Watched::new(rt.reader());
-    let mut writer = Watched::new(io::writer(rt));
-    ExitCode::from(status(rt, rt, &mut reader, &mut writer))
+    let words = match LINE.words(rt) {
+        Ok(words) => words,
+        Err(status) => return ExitCode::from(status),
+    };
+    match obey(rt, words.as_slice()) {
+        Ok(status) | Err(status) => ExitCode::from(status),
+    }
 }

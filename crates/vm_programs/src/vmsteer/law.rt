@@ -12,6 +12,9 @@ pub fn law_words()
     ensures twice { AreRefused (codes "--csv" ∷ codes "--csv" ∷ []) }
     ensures value { AreRefused (codes "--csv=true" ∷ []) }
     ensures other { AreRefused (codes "--workers=1" ∷ []) }
-    ensures stray { AreRefused (codes "policy" ∷ []) }
+    ensures file { AskFor (codes "host.log" ∷ []) orders }
+    ensures file_drawn { AskFor (codes "--svg" ∷ codes "host.log" ∷ []) drawing }
+    ensures two_files { AreRefused (codes "host.log" ∷ codes "policy" ∷ []) }
     ensures help { AreRefused (codes "--help" ∷ []) }
+    ensures version { AreRefused (codes "--version" ∷ []) }
 {}

@@ -15,11 +15,16 @@ pub const SVG: Flag = Flag {
     beside: Some("csv"),
 };
 
-/// `vmsteer [--csv | --svg] < LOG > ORDERS`
+/// `vmsteer [--csv | --svg] [FILE] < LOG > ORDERS`
 pub const LINE: CommandLine = CommandLine {
     program: "vmsteer",
     takes: "LOG",
     gives: "ORDERS",
+    takes_file: true,
+    about: "Steers the balloons of a libvirt host. It reads a policy (JSON) and what virsh domstats tells, sample\n\
+        by sample, from FILE or standard input, and writes for each sample the setmem lines that virsh takes,\n\
+        or a table (CSV) or a drawing (SVG), to standard output.",
+    example: "Example:\n  vmsteer --csv examples/recorded/host.log > host.csv",
     flags: &[CSV, SVG],
     values: &[],
 };

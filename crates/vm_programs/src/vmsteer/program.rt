@@ -1,5 +1,5 @@
 //! From the words of the command line to the exit status.
-ghost use Rattle.std.specs.Prelude.{◌≡◌, ◌≢◌, ◌<◌, ◌≤◌, Err, IfErr, IfSome, OnOk, map, string_bytes};
+ghost use Rattle.std.specs.Prelude.{◌≡◌, ◌≢◌, ◌<◌, ◌≤◌, Err, IfErr, IfSome, OnOk, map, string_bytes, IfOk};
 ghost use Rattle.std.specs.Io.KnownBytes.{IsAtEnd, Keeps};
 ghost use Rattle.std.specs.Process.{exit_status};
 ghost use Rattle.vm_programs.specs.declared.vmsteer.output.Output.{Output as OutputOf};
@@ -11,10 +11,12 @@ ghost use Rattle.vm_streams.specs.Streams.{NewlyFailed};
 use super::complaints::complain;
 use super::line::LINE;
 use super::output::{Output, output_of};
+use crate::input::open_input;
 use std::alloc::Global;
 use std::io;
+use std::io::{Input, IsTerminal};
 use std::process::ExitCode;
-use std::rt::Env;
+use std::rt::{Env, Files};
 use vm_steer::{SteerError, steer};
 use vm_steer_charts::draw;
 use vm_streams::{Sink, Source, Watched};
@@ -128,15 +130,38 @@ pub fn status<R: Source, W: Sink>(
     }
 }
 
-/// Steers a host by the log on standard input, a policy and what `virsh domstats` tells sample by sample, and writes what its
-/// domains' balloons are ordered to standard output, for `virsh` to read.
+// Opens what the words say is read, does what they ask for, and gives the status to end with.
+fn obey<RT: Env + Input + Files + Print + Eprint + AllocGlobal>(
+    rt: &RT,
+    words: &[String],
+) -> Result<u8, u8>
+where
+    RT::Reader: IsTerminal,
+    ensures done { IfOk result (λ status. status ≤ 3) }
+    ensures refused { IfErr result (λ status. status ≤ 3) }
+{
+    let request = LINE.request(rt, words)?;
+    let mut reader = Watched::new(open_input(rt, &LINE, request.file())?);
+    let mut writer = Watched::new(io::writer(rt));
+    Ok(steer_by(rt, output_of(&request), &mut reader, &mut writer))
+}
+
+/// Steers a host by a log, a policy and what `virsh domstats` tells sample by sample, and writes what its domains' balloons are ordered
+/// to standard output, for `virsh` to read.
 ///
-/// The words are those of `vmsteer [--csv | --svg]`: whether a table or a drawing is wanted in place of orders. They are read before
-/// the input. The exit code is that of [`status`].
-pub fn vmsteer(rt: &(impl Env + Input + Print + Eprint + AllocGlobal)) -> ExitCode
+/// The words are those of `vmsteer [--csv | --svg] [FILE]`: whether a table or a drawing is wanted in place of orders. They are read
+/// before the input. FILE is read in place of standard input, which `-` stands for; where it can't be opened the exit code is 3 and
+/// nothing is written, and else it is that of [`status_for`] with that input.
+pub fn vmsteer<RT: Env + Input + Files + Print + Eprint + AllocGlobal>(rt: &RT) -> ExitCode
+where
+    RT::Reader: IsTerminal,
     ensures known { exit_status result ≤ 3 }
 {
-    let mut reader = Watched::new(rt.reader());
-    let mut writer = Watched::new(io::writer(rt));
-    ExitCode::from(status(rt, &mut reader, &mut writer))
+    let words = match LINE.words(rt) {
+        Ok(words) => words,
+        Err(status) => return ExitCode::from(status),
+    };
+    match obey(rt, words.as_slice()) {
+        Ok(status) | Err(status) => ExitCode::from(status),
+    }
 }

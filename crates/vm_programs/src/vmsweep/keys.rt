@@ -40,6 +40,27 @@ pub const REBALANCE_LIMITS: Limits = Limits {
     greatest: 262144,
 };
 
+/// The values of `--min-percent`, in percent of a guest's size.
+pub const MIN_PERCENT_LIMITS: Limits = Limits {
+    unit: Unit::Whole,
+    least: 1,
+    greatest: 100,
+};
+
+/// The values of `--min`, in pages.
+pub const MIN_LIMITS: Limits = Limits {
+    unit: Unit::Whole,
+    least: 1,
+    greatest: 262144,
+};
+
+/// The values of `--shares`.
+pub const SHARES_LIMITS: Limits = Limits {
+    unit: Unit::Whole,
+    least: 1,
+    greatest: 1000000,
+};
+
 /// A key whose values a sweep goes over.
 #[derive(Clone, Copy, Debug, PartialEq, Eq)]
 pub enum SweptKey {
@@ -53,6 +74,12 @@ pub enum SweptKey {
     PageRate,
     /// The most pages that a boundary moves from idle guests to those who would pay more for them.
     Rebalance,
+    /// The minimum of each guest, in percent of its size.
+    MinPercent,
+    /// The minimum of a guest with a name.
+    Min,
+    /// The shares of a guest with a name.
+    Shares,
 }
 
 impl SweptKey {
@@ -67,6 +94,9 @@ impl SweptKey {
             SweptKey::Tax => "tax",
             SweptKey::PageRate => "page-rate",
             SweptKey::Rebalance => "rebalance",
+            SweptKey::MinPercent => "min-percent",
+            SweptKey::Min => "min",
+            SweptKey::Shares => "shares",
         }
     }
 
@@ -81,6 +111,9 @@ impl SweptKey {
             SweptKey::Tax => TAX_LIMITS,
             SweptKey::PageRate => PAGE_RATE_LIMITS,
             SweptKey::Rebalance => REBALANCE_LIMITS,
+            SweptKey::MinPercent => MIN_PERCENT_LIMITS,
+            SweptKey::Min => MIN_LIMITS,
+            SweptKey::Shares => SHARES_LIMITS,
         }
     }
 }

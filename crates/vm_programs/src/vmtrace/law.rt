@@ -19,6 +19,7 @@ pub fn law_words()
           skip = 18446744073709551615;
           has_code = false;
         }) }
+    ensures file { AskFor (codes "a.log" ∷ []) usual }
     ensures no_code { AskFor (codes "--no-code" ∷ []) (record usual { has_code = false }) }
 
     // Of the name.
@@ -39,6 +40,7 @@ pub fn law_words()
     ensures more_steps { AreRefused (codes "--steps=1000001" ∷ []) }
     ensures twice { AreRefused (codes "--name=a" ∷ codes "--name=b" ∷ []) }
     ensures code { AreRefused (codes "--code" ∷ []) }
-    ensures stray { AreRefused (codes "guest" ∷ []) }
+    ensures two_files { AreRefused (codes "a.log" ∷ codes "b.log" ∷ []) }
     ensures help { AreRefused (codes "--help" ∷ []) }
+    ensures version { AreRefused (codes "--version" ∷ []) }
 {}

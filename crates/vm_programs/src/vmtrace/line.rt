@@ -1,14 +1,19 @@
 //! How the program is called.
 use vm_words::{CommandLine, Flag, ValueKind, ValueWord};
 
-/// `vmtrace [--no-code] [--name NAME] [--min PAGES] [--interval LINES] [--quantum STEPS] [--skip LINES] [--steps N] < LOG > CONFIGURATION`
+/// `vmtrace [--no-code] [--name NAME] [--min PAGES] [--interval LINES] [--quantum STEPS] [--skip LINES] [--steps N] [FILE] < LOG > CONFIGURATION`
 pub const LINE: CommandLine = CommandLine {
     program: "vmtrace",
     takes: "LOG",
     gives: "CONFIGURATION",
+    takes_file: true,
+    about: "Makes a guest that touches memory as a recorded program did. It reads a log of valgrind's lackey\n\
+        (valgrind --tool=lackey --trace-mem=yes) from FILE or standard input, and writes a configuration (JSON)\n\
+        with that guest to standard output.",
+    example: "Example:\n  vmtrace --name sort --interval 100000 sort.log > sort.json",
     flags: &[Flag {
         name: "no-code",
-        help: "Fetched instructions count, and touch nothing",
+        help: "Fetched instructions count, and touch nothing; else they read",
         beside: None,
     }],
     values: &[

@@ -1,5 +1,5 @@
 //! From the words of the command line to the exit status.
-ghost use Rattle.std.specs.Prelude.{◌≡◌, ◌≢◌, ◌<◌, ◌≤◌, List, map, string_bytes};
+ghost use Rattle.std.specs.Prelude.{◌≡◌, ◌≢◌, ◌<◌, ◌≤◌, List, map, string_bytes, IfErr, IfOk};
 ghost use Rattle.std.specs.Io.KnownBytes.{Keeps};
 ghost use Rattle.std.specs.Process.{exit_status};
 ghost use Rattle.clap.specs.Words.{Text};
@@ -10,10 +10,12 @@ ghost use Rattle.vm_streams.specs.Streams.{NewlyFailed};
 
 use super::complaints::{complain, tell_limit};
 use super::line::LINE;
-use super::words::read_words;
+use super::words::{read_request, read_words};
+use crate::input::open_input;
 use std::io;
+use std::io::{Input, IsTerminal};
 use std::process::ExitCode;
-use std::rt::Env;
+use std::rt::{Env, Files};
 use vm_import::{ImportSettings, import_log};
 use vm_streams::{Sink, Source, Watched};
 use vm_words::DONE;
@@ -108,15 +110,39 @@ pub fn status<R: Source, W: Sink>(
     }
 }
 
-/// Reads a log of valgrind's lackey (`valgrind --tool=lackey --trace-mem=yes`) from standard input, and writes a configuration with one
-/// guest that touches memory as the program did to standard output.
+// Opens what the words say is read, does what they ask for, and gives the status to end with.
+fn obey<RT: Env + Input + Files + Print + Eprint + AllocGlobal>(
+    rt: &RT,
+    words: &[String],
+) -> Result<u8, u8>
+where
+    RT::Reader: IsTerminal,
+    ensures done { IfOk result (λ status. status ≤ 3) }
+    ensures refused { IfErr result (λ status. status ≤ 3) }
+{
+    let request = LINE.request(rt, words)?;
+    let settings = read_request(rt, &request)?;
+    let mut reader = Watched::new(open_input(rt, &LINE, request.file())?);
+    let mut writer = Watched::new(io::writer(rt));
+    Ok(import_by(rt, &settings, &mut reader, &mut writer))
+}
+
+/// Reads a log of valgrind's lackey (`valgrind --tool=lackey --trace-mem=yes`), and writes a configuration with one guest that touches
+/// memory as the program did to standard output.
 ///
 /// The words are those of `vmtrace [--name NAME] [--min PAGES] [--interval LINES] [--quantum STEPS] [--skip LINES] [--steps N]
-/// [--no-code]`. They are read before the input. The exit code is that of [`status`].
-pub fn vmtrace(rt: &(impl Env + Input + Print + Eprint + AllocGlobal)) -> ExitCode
+/// [--no-code] [FILE]`. They are read before the input. FILE is read in place of standard input, which `-` stands for; where it can't
+/// be opened the exit code is 3 and nothing is written, and else it is that of [`status_for`] with that input.
+pub fn vmtrace<RT: Env + Input + Files + Print + Eprint + AllocGlobal>(rt: &RT) -> ExitCode
+where
+    RT::Reader: IsTerminal,
     ensures known { exit_status result ≤ 3 }
 {
-    let mut reader = Watched::new(rt.reader());
-    let mut writer = Watched::new(io::writer(rt));
-    ExitCode::from(status(rt, &mut reader, &mut writer))
+    let words = match LINE.words(rt) {
+        Ok(words) => words,
+        Err(status) => return ExitCode::from(status),
+    };
+    match obey(rt, words.as_slice()) {
+        Ok(status) | Err(status) => ExitCode::from(status),
+    }
 }

@@ -44,10 +44,22 @@ pub returns-clause-other : goal.returns-clause-other
 unfolding clap_on_literals AreTaken asked command_line flag_option number_of text_of value_option
 returns-clause-other c = λ taken. absurd (has-fault _ _ taken.faultless)
 
-pub returns-clause-stray : goal.returns-clause-stray
-unfolding clap_on_literals AreTaken asked command_line flag_option number_of text_of value_option
-returns-clause-stray c = λ taken. absurd (has-fault _ _ taken.faultless)
-
 pub returns-clause-help : goal.returns-clause-help
 unfolding clap_on_literals AreTaken asked command_line flag_option number_of text_of value_option
 returns-clause-help c = λ taken. absurd (has-fault _ _ taken.faultless)
+
+pub returns-clause-two_files : goal.returns-clause-two_files
+unfolding clap_on_literals AreTaken asked command_line flag_option number_of text_of value_option
+returns-clause-two_files c = λ taken. absurd (has-fault _ _ taken.faultless)
+
+pub returns-clause-version : goal.returns-clause-version
+unfolding clap_on_literals AreTaken asked command_line flag_option number_of text_of value_option
+returns-clause-version c = λ taken. absurd (has-fault _ _ taken.faultless)
+
+pub returns-clause-file : goal.returns-clause-file
+unfolding clap_on_literals AreTaken asked command_line flag_option number_of text_of value_option
+returns-clause-file c = record { taken = record { faultless = refl; apart = refl; fit = refl }; asked = refl }
+
+pub returns-clause-file_behind : goal.returns-clause-file_behind
+unfolding clap_on_literals AreTaken asked command_line flag_option number_of text_of value_option
+returns-clause-file_behind c = record { taken = record { faultless = refl; apart = refl; fit = refl }; asked = refl }

@@ -35,3 +35,7 @@ returns-clause-help c = λ taken. has-fault _ _ taken.faultless
 pub returns-clause-other : goal.returns-clause-other
 unfolding clap_on_literals AreTaken asked command_line text_of value_option
 returns-clause-other c = λ taken. has-fault _ _ taken.faultless
+
+pub returns-clause-version : goal.returns-clause-version
+unfolding clap_on_literals AreTaken asked command_line text_of value_option
+returns-clause-version c = λ taken. has-fault _ _ taken.faultless

@@ -35,3 +35,19 @@ returns-clause-more c = λ taken. has-fault _ _ taken.faultless
 pub returns-clause-help : goal.returns-clause-help
 unfolding clap_on_literals AreTaken asked command_line flag_option has_flag text_of value_option
 returns-clause-help c = λ taken. has-fault _ _ taken.faultless
+
+pub returns-clause-file : goal.returns-clause-file
+unfolding clap_on_literals AreTaken asked command_line flag_option has_flag text_of value_option
+returns-clause-file c = (record { faultless = refl; apart = refl; fit = refl }, refl)
+
+pub returns-clause-drawn_file : goal.returns-clause-drawn_file
+unfolding clap_on_literals AreTaken asked command_line flag_option has_flag text_of value_option
+returns-clause-drawn_file c = (record { faultless = refl; apart = refl; fit = refl }, refl)
+
+pub returns-clause-two_files : goal.returns-clause-two_files
+unfolding clap_on_literals AreTaken asked command_line flag_option has_flag text_of value_option
+returns-clause-two_files c = λ taken. has-fault _ _ taken.faultless
+
+pub returns-clause-version : goal.returns-clause-version
+unfolding clap_on_literals AreTaken asked command_line flag_option has_flag text_of value_option
+returns-clause-version c = λ taken. has-fault _ _ taken.faultless

@@ -14,8 +14,11 @@ returns-in_err-request-clause-refused g c =
     passed-on sweep_line words (AreTaken words) (λ taken. taken.formed) c.from_residual.result c.in_err-request.field-0.0
     c.in_err-request.ensures.refused c.from_residual.ensures.1
 
-pub asked_of-requires : goal.asked_of-requires
-asked_of-requires g c = for-some _ _ c.in_ok-request.ensures.numbers.1.1.1.1.1.0
+pub asked_of-requires-clause-workers : goal.asked_of-requires-clause-workers
+asked_of-requires-clause-workers g c = for-some _ _ c.in_ok-request.ensures.numbers.1.1.1.1.1.1.1.1.1.0
+
+pub asked_of-requires-clause-seeds : goal.asked_of-requires-clause-seeds
+asked_of-requires-clause-seeds g c = for-some _ _ c.in_ok-request.ensures.numbers.1.1.1.1.1.1.1.1.0
 
 pub returns-in-Ok-clause-lists : goal.returns-in-Ok-clause-lists
 unfolding sweep_line
@@ -46,7 +49,7 @@ unfolding sweep_line
 returns-in-Ok-clause-taken g c =
     let same : c.in_ok-request.request ≡ rows_of (map string_bytes c.args.words.now) = c.in_ok-request.ensures.asked in
     taken _ c.in_ok-request.request same c.in-Ok.asked.form (lists_in c.in-Ok.asked) c.in_ok-request.ensures.taken
-    c.in-Ok.ensures.lists c.in-Ok.ensures.form c.in-Ok.ensures.few c.in-Ok.ensures.drawn
+    c.in-Ok.ensures.lists c.in-Ok.ensures.form c.in-Ok.ensures.few_lists c.in-Ok.ensures.few c.in-Ok.ensures.drawn
 
 pub returns-clause-refused : goal.returns-clause-refused
 unfolding sweep_line

@@ -105,10 +105,21 @@ pub returns-clause-code : goal.returns-clause-code
 unfolding clap_on_literals AreTakenBy asked command_line flag_option has_flag number_of text_of value_option trace_line
 returns-clause-code c = λ taken. absurd (has-fault _ _ taken.formed.faultless)
 
-pub returns-clause-stray : goal.returns-clause-stray
-unfolding clap_on_literals AreTakenBy asked command_line flag_option has_flag number_of text_of value_option trace_line
-returns-clause-stray c = λ taken. absurd (has-fault _ _ taken.formed.faultless)
-
 pub returns-clause-help : goal.returns-clause-help
 unfolding clap_on_literals AreTakenBy asked command_line flag_option has_flag number_of text_of value_option trace_line
 returns-clause-help c = λ taken. absurd (has-fault _ _ taken.formed.faultless)
+
+pub returns-clause-two_files : goal.returns-clause-two_files
+unfolding clap_on_literals AreTakenBy asked command_line flag_option has_flag number_of text_of value_option trace_line
+returns-clause-two_files c = λ taken. absurd (has-fault _ _ taken.formed.faultless)
+
+pub returns-clause-version : goal.returns-clause-version
+unfolding clap_on_literals AreTakenBy asked command_line flag_option has_flag number_of text_of value_option trace_line
+returns-clause-version c = λ taken. absurd (has-fault _ _ taken.formed.faultless)
+
+pub returns-clause-file : goal.returns-clause-file
+unfolding clap_on_literals AreTakenBy asked command_line flag_option has_flag number_of text_of value_option trace_line
+returns-clause-file c = record {
+  taken = record { formed = record { faultless = refl; apart = refl; fit = refl }; named = refl };
+  asked = refl;
+}

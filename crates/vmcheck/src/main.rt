@@ -1,0 +1,9 @@
+//! Tells what is wrong or surprising in a configuration in FILE or on standard input, a line for each finding: `vmcheck [FILE]`.
+#![tactic(auto)]
+
+use std::process::ExitCode;
+use vm_programs::vmcheck::vmcheck;
+
+fn main(rt: HostRuntime) -> ExitCode {
+    vmcheck(&rt)
+}
