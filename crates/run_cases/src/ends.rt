@@ -105,6 +105,17 @@ fn says_output(entry: &Entry) -> bool {
     matches!(entry.key, "writes" | "shows" | "times")
 }
 
+/// The bytes that a line names, and whether the input ends after them.
+fn read_input<RT: Files + AllocGlobal>(rt: &RT, value: &str) -> Result<(Vec<u8>, bool)> {
+    if value == "fails" {
+        return Ok((Vec::new(rt.alloc()), false));
+    }
+    match value.strip_prefix("spaces ") {
+        Some(count) => Ok((vec![in rt.alloc(); b' '; number(count)?]?, true)),
+        None => Ok((bytes(rt, value)?, true)),
+    }
+}
+
 /// What a block gives to its words, and wants of them.
 fn read_case<RT: Files + AllocGlobal + Threads + Sync>(rt: &RT, block: &[Entry]) -> Result<Case> {
     check_keys(block, &KEYS)?;
@@ -113,10 +124,7 @@ fn read_case<RT: Files + AllocGlobal + Threads + Sync>(rt: &RT, block: &[Entry])
         block.iter().any(|entry| says_output(entry)),
         "nothing of the output"
     );
-    let (input, ends) = match needed(block, "input")? {
-        "fails" => (Vec::new(rt.alloc()), false),
-        name => (bytes(rt, name)?, true),
-    };
+    let (input, ends) = read_input(rt, needed(block, "input")?)?;
     let room = match single(block, "room")? {
         None => AMPLE,
         Some(room) => number(room)?,

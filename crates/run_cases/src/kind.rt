@@ -19,14 +19,17 @@ pub(crate) enum Kind {
     Vmseries,
     Vmsweep,
     VmsweepForms,
+    VmsweepGuests,
     Vmtrace,
     Vmsteer,
     Vmlog,
+    Files,
+    Help,
 }
 
 impl Kind {
     /// All of them, in the order in which they are tried.
-    pub(crate) const ALL: [Kind; 12] = [
+    pub(crate) const ALL: [Kind; 15] = [
         Kind::Reports,
         Kind::Series,
         Kind::Charts,
@@ -36,9 +39,12 @@ impl Kind {
         Kind::Vmseries,
         Kind::Vmsweep,
         Kind::VmsweepForms,
+        Kind::VmsweepGuests,
         Kind::Vmtrace,
         Kind::Vmsteer,
         Kind::Vmlog,
+        Kind::Files,
+        Kind::Help,
     ];
 
     /// The name of its file, which is `NAME.cases`.
@@ -53,9 +59,12 @@ impl Kind {
             Kind::Vmseries => "vmseries",
             Kind::Vmsweep => "vmsweep",
             Kind::VmsweepForms => "vmsweep-forms",
+            Kind::VmsweepGuests => "vmsweep-guests",
             Kind::Vmtrace => "vmtrace",
             Kind::Vmsteer => "vmsteer",
             Kind::Vmlog => "vmlog",
+            Kind::Files => "files",
+            Kind::Help => "help",
         }
     }
 
@@ -76,9 +85,12 @@ impl Kind {
             | Kind::Vmseries
             | Kind::Vmsweep
             | Kind::VmsweepForms
+            | Kind::VmsweepGuests
             | Kind::Vmtrace
             | Kind::Vmsteer
-            | Kind::Vmlog => ends::try_block(rt, block, tally),
+            | Kind::Vmlog
+            | Kind::Files
+            | Kind::Help => ends::try_block(rt, block, tally),
         }
     }
 

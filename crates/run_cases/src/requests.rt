@@ -25,6 +25,9 @@ const PLAIN: CommandLine = CommandLine {
     gives: "REPORT",
     flags: &[],
     values: &[WORKERS],
+    takes_file: false,
+    about: "Runs a configuration",
+    example: "plain --workers 2",
 };
 
 const FLAGGED: CommandLine = CommandLine {
@@ -33,6 +36,9 @@ const FLAGGED: CommandLine = CommandLine {
     gives: "SERIES",
     flags: &[SVG],
     values: &[WORKERS],
+    takes_file: true,
+    about: "Draws a configuration",
+    example: "flagged --svg a.json",
 };
 
 fn owned(alloc: Global, words: &[&str]) -> Result<Vec<String>, AllocError> {
@@ -43,16 +49,20 @@ fn owned(alloc: Global, words: &[&str]) -> Result<Vec<String>, AllocError> {
     Ok(texts)
 }
 
-/// What a request asks for: how many workers, and whether a drawing.
+/// What a request asks for: how many workers, whether a drawing, and of which file.
 fn told(alloc: Global, request: &Request<'_>) -> Result<String, AllocError>
     requires { HasWorkersInRange request.now }
 {
     let workers = workers_of(request);
+    let mut told = format!(in alloc; "{workers}")?;
     if request.has_flag(SVG.name) {
-        format!(in alloc; "{workers} svg")
-    } else {
-        format!(in alloc; "{workers}")
+        told.push_str(" svg")?;
     }
+    if let Some(file) = request.file() {
+        told.push_str(" of ")?;
+        told.push_str(file)?;
+    }
+    Ok(told)
 }
 
 /// What words ask for, which is nothing where they are refused. Something is said exactly then.

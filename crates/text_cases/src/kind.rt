@@ -1,6 +1,6 @@
 // The kinds of cases: the name of each, and the module that tries a line of it.
 use crate::table::Outcome;
-use crate::{commands, config, json, lackey, lists, policy, trace, working_set};
+use crate::{commands, config, json, lackey, lists, odd, policy, trace, working_set};
 use std::alloc::{AllocError, Global};
 
 /// A kind of cases, with a table of its own.
@@ -43,11 +43,13 @@ pub(crate) enum Kind {
     Thresholds,
     States,
     Prices,
+    OddKeys,
+    PolicyFindings,
 }
 
 impl Kind {
     /// All of them, in the order in which they are tried.
-    pub(crate) const ALL: [Kind; 37] = [
+    pub(crate) const ALL: [Kind; 39] = [
         Kind::ConfigKeys,
         Kind::ConfigRanges,
         Kind::ConfigLengths,
@@ -85,6 +87,8 @@ impl Kind {
         Kind::Thresholds,
         Kind::States,
         Kind::Prices,
+        Kind::OddKeys,
+        Kind::PolicyFindings,
     ];
 
     /// The name of its table, which is the file `NAME.table`.
@@ -127,6 +131,8 @@ impl Kind {
             Kind::Thresholds => "thresholds",
             Kind::States => "states",
             Kind::Prices => "prices",
+            Kind::OddKeys => "odd-keys",
+            Kind::PolicyFindings => "policy-findings",
         }
     }
 
@@ -170,6 +176,8 @@ impl Kind {
             Kind::Thresholds => policy::thresholds::machine(alloc, line),
             Kind::States => policy::thresholds::state(alloc, line),
             Kind::Prices => policy::prices::outcome(alloc, line),
+            Kind::OddKeys => odd::keys(alloc, line),
+            Kind::PolicyFindings => odd::policy(alloc, line),
         }
     }
 }

@@ -12,6 +12,7 @@ mod json;
 mod kind;
 mod lackey;
 mod lists;
+mod odd;
 mod optional;
 mod pairs;
 mod policy;

@@ -8,29 +8,47 @@ use vm_series::{EpochRow, collect_series, svg_text};
 
 // ---- samples
 
-// What a curve shows: the target of the guest at a position, or the pages of all guests.
+// What a curve shows: the target of the guest at a position, the pages of all guests, the pages that touches of the guest at a position
+// sent to swap, or nothing, where there is no curve.
 #[derive(Clone, Copy)]
 enum Measure {
     Target(usize),
     SwappedOut,
     Ballooned,
+    Evicted(usize),
+    Nothing,
+}
+
+// The pages that touches of a guest sent to swap. A guest that is blocked touches none, and keeps the demand that it had.
+fn evicted(row: &EpochRow, position: usize) -> Option<u64> {
+    let view = row.view(position)?;
+    Some(if view.blocked { 0 } else { view.demand })
+}
+
+// The pages of all guests that are swapped out, or ballooned.
+fn pages(row: &EpochRow, are_swapped: bool) -> u64 {
+    let mut sum: u64 = 0;
+    for view in row.views() {
+        let Some(view) = view else { continue };
+        let pages = if are_swapped {
+            view.swapped
+        } else {
+            view.balloon
+        };
+        sum = sum.saturating_add(u64::from(pages));
+    }
+    sum
 }
 
 // The value of a curve after an epoch: a guest that doesn't run has none.
 fn sample(row: &EpochRow, measure: Measure) -> Option<u64> {
-    if let Measure::Target(position) = measure {
-        return row.view(position).map(|view| u64::from(view.target));
+    match measure {
+        Measure::Target(position) => row.view(position).map(|view| u64::from(view.target)),
+        Measure::SwappedOut => Some(pages(row, true)),
+        Measure::Ballooned => Some(pages(row, false)),
+        Measure::Evicted(position) => evicted(row, position),
+        Measure::Nothing => None,
     }
-    let mut sum: u64 = 0;
-    for view in row.views() {
-        let Some(view) = view else { continue };
-        let pages = match measure {
-            Measure::SwappedOut => view.swapped,
-            _ => view.balloon,
-        };
-        sum = sum.saturating_add(u64::from(pages));
-    }
-    Some(sum)
 }
 
 // The greatest value of some curves.
@@ -161,8 +179,27 @@ fn guests_of(rows: &[EpochRow], positions: usize) -> u64 {
     guests
 }
 
+// What is drawn of the pages that touches of the guest at a position sent to swap: nothing, where they never sent one.
+fn evicted_of(rows: &[EpochRow], position: usize) -> Measure {
+    let sent = rows.iter().filter_map(|row| evicted(row, position)).max();
+    if sent.unwrap_or(0) > 0 {
+        Measure::Evicted(position)
+    } else {
+        Measure::Nothing
+    }
+}
+
+// How many guests are drawn so.
+fn drawn_of(measures: &[Measure]) -> usize {
+    measures
+        .iter()
+        .filter(|measure| !matches!(measure, Measure::Nothing))
+        .count()
+}
+
 // Asserts the scales and marks of a drawing, and that it has no other marks but those of the legends. A legend has the guests, whose
-// names have two letters, eight in a line, and the chart of the pages is below it.
+// names have two letters, eight in a line. The chart of the pages is below it, and that of what touches sent to swap below that chart's
+// legend of one line.
 fn assert_pieces(
     rt: &(impl Abort + AllocGlobal),
     svg: &String,
@@ -173,13 +210,19 @@ fn assert_pieces(
         .map(Measure::Target)
         .collect(rt.alloc())
         .expect(rt, "memory");
+    let evicted: Vec<Measure> = (0..positions)
+        .map(|position| evicted_of(rows, position))
+        .collect(rt.alloc())
+        .expect(rt, "memory");
     let guests = guests_of(rows, positions);
     let base = guests.div_ceil(8).saturating_mul(24).saturating_add(1043);
     let pages = [Measure::SwappedOut, Measure::Ballooned];
     let marks = assert_chart(rt, svg, rows, 755, targets.as_slice())
         .saturating_add(assert_chart(rt, svg, rows, base, &pages))
+        .saturating_add(assert_chart(rt, svg, rows, base.saturating_add(312), evicted.as_slice()))
         .saturating_add(guests as usize)
-        .saturating_add(2);
+        .saturating_add(2)
+        .saturating_add(drawn_of(evicted.as_slice()));
     assert_count(rt, svg, " dy=\"4\">", marks);
 }
 
