@@ -2,6 +2,15 @@
 //! posts is kept until the device is served, and then changes the set of pages that are in the balloon.
 //!
 //! Left out are the rings of the queues, notifications and transports: a buffer is a list of bytes.
+//!
+//! **Proved**: what is posted, and when each refusal comes (`post`: `ok`, `too_long`, `full`, `err`); what a service accepts,
+//! ignores and leaves (`serve`: `device`, `inflated`, `deflated`, `bad`); the configuration bytes, page numbers and statistics at
+//! every place, with both round trips (`encode_page`, `encode_stat`: `reads_back`); what holds of every device, as that the balloon
+//! and the pages in early use are disjoint between services (`balloon_len`: `good`); the least ballooned pages in order
+//! (`list_ballooned`). No call but `new` takes memory.
+//!
+//! **Only tested**: that calls succeed, and the numbers of the errors. **Not claimed**: rings, notifications, transports, any real
+//! driver; speed.
 #![tactic(auto)]
 
 mod buffer;

@@ -25,6 +25,20 @@
 //! guests, state and phase. No frame is in it, so that the definitions of `past_boundary` (`specs/Boundary.antt`) and `after_epoch`
 //! are about plain data. After each call frames that are free, held and in overhead add up (`Conserves`), each running guest's
 //! record is good, and the revocations and the rebalancing of a boundary were fair (`specs/Fairness.antt`).
+//!
+//! **Proved**: [`Host::boundary`] is `past_boundary` on the world, answers what `boundary_of` says and leaves a host that is ready
+//! for an epoch (`done`, `told`, `ready`). The six commands are decided in the order of their refusals, by the books
+//! (`decision_on_line`). `Failed` comes exactly on a failed host, which stays as it is. `Memory` comes only where there is a domain
+//! or a line (`wanted`), and keeps the machine and the domains (`kept`). After each boundary, a failed one too, frames add up
+//! (`conserves`); after `Ok` each record is good (`good`), each revocation was fair (`fair`) and each page that moved from guest to
+//! guest was given fairly (`rebalanced`). [`Host::epoch`] is `after_epoch` for every gate and 1 to 64 workers, and changes nothing
+//! on an error (`done`, `unchanged`); each running guest's number passes the gate once, those of each thread rising (`passed`).
+//! `epoch_alone` is the same on the caller's thread. Readers show the world; `peek` copies a page exactly where a running guest has
+//! the name, the page is below its size and the host has not failed. `close` takes any host and gives the domains back; that every
+//! frame goes back is the proof of its body, and no clause.
+//!
+//! **Only tested**: that calls succeed where memory is there, without domains too; that two workers run two guests at once; worked
+//! examples. **Not claimed**: speed. For callers: `proofs/FirstLemmas`, `KeptLemmas`, `PolicyLemmas`.
 #![tactic(auto)]
 
 mod boundary;

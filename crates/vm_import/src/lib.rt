@@ -15,6 +15,21 @@
 //!
 //! `specs/Taking.antt` says what is taken of a log, `specs/Guests.antt` which guest that makes, `specs/Texts.antt` its text,
 //! `specs/Limits.antt` what it has at most, and `specs/Imports.antt` what comes of it all; [`law_imports`] has examples.
+//!
+//! **Proved**, for every log whose bytes are known: where [`import_log`] answers `Ok`, what was written is the text of the guest
+//! that the log makes, and nothing else, and it is told how many intervals were taken and which limit the next one passes (`guest`;
+//! `taken_of`, `guest_of`, `text_of`). Reading ends at the first access with which the guest of all accesses so far passes a limit;
+//! whole intervals are taken of those before it, and nothing from that line on is judged (`taken_behind`). An error says what was
+//! written, and a line is refused only for its fault, with its number (`failed`); a failed reader or writer is told
+//! (`reader_failed`, `writer_failed`). [`LogReader`] gives the first access of what is left, or the first fault, whatever the sizes
+//! of reads (`gives`, `fault`); an access has 1 to 1024 bytes, none behind the last address (`access`). Its fast and its general
+//! way meet one definition. A [`WorkingSet`] has the pages in the order of their first touches, and of an interval's touches the
+//! first touch and the first write of each page (`ok`, `begins`, `pages`, `kept`); a refused access leaves what was there and a
+//! front of its touches (`err`).
+//!
+//! **Only tested**: that calls succeed where memory is there; the texts of faults. **Not claimed**: speed; that memory goes with
+//! pages and one interval's touches; what calls after an error give. That a configuration is read from the text is a law of
+//! `vm_laws`.
 #![tactic(auto)]
 
 mod access;

@@ -6,6 +6,18 @@
 //! written in `specs/Streams`. [`law_in_range`] says that what is taken of any samples is a host in range.
 //!
 //! Memory goes with the domains and epochs: four bytes for each of both. The time of a sample goes with its domains and the guests.
+//!
+//! **Proved**, for a reader whose bytes are known: where [`plan_log`] answers `Ok`, the policy isn't refused, what was written is
+//! the text of the host of the samples that are taken, and nothing else, and it is told how many epochs it has, how many bad
+//! samples were passed over, and which limit ended the reading (`plans`, definition `Plans` over `host_of` and `taken_of`). Each
+//! error but want of memory has its cause; nothing was written then, or a front of the text where the write failed (`failed`,
+//! definition `Fails`). A reader or a writer that fails in the call is told (`reader_failed`, `writer_failed`). For every policy in
+//! range and every list of samples, what is taken of them is a recorded host in its ranges, whose text has at most 16777216 bytes
+//! ([`law_in_range`]).
+//!
+//! **Only tried**: a second reading of the format beside it, on an independent program's examples, made logs, and logs at each
+//! limit (`tools/log-check`, `tools/hostile-logs`). **Not claimed**: how memory and time grow. Each sample takes time for all
+//! domains that were ever left alone.
 #![tactic(auto)]
 
 mod alone;

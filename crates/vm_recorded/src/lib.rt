@@ -6,6 +6,13 @@
 //!
 //! The trace of a guest is in `specs/Traces`, the commands in `specs/Commands`, the text in `specs/Texts`, and its limits in
 //! `specs/Limits`; [`law_texts`] has examples.
+//!
+//! **Proved**: [`text_of`] makes the text of a host, byte by byte (definition `text_of`: its head, each guest with its trace, the
+//! commands), and [`length_of`] is how many bytes that has, without making it, from the [`Counts`] of each guest. [`limit_by`] is
+//! the first limit that is passed. Texts want memory; lengths and limits don't. That `vm_config` reads the text is a law of
+//! `vm_laws`.
+//!
+//! **Not claimed**: that the time of `length_of` goes with the guests alone.
 #![tactic(auto)]
 
 mod command_length;

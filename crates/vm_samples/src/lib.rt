@@ -12,6 +12,17 @@
 //! `specs/Keys.antt`; `specs/SampleOf.antt` the sample that bytes mean, over what a line tells in `specs/SampleLines.antt`; and
 //! `specs/Blocks.antt` the blocks of a stream. `specs/Names.antt` has the names of guests, and `specs/FaultTexts.antt` and
 //! `specs/BadLines.antt` the words in which a fault of a policy and a bad sample are told.
+//!
+//! **Proved**: [`read_policy`] gives the policy that a text means, or its first fault with the place (`policy`, definition
+//! `policy_of`), and what is read is within the ranges, no name twice (`within`, record `IsPolicy`). [`read_sample`] gives the
+//! domains that bytes mean, or the first bad line and why (`sample_of`). Both may answer that memory was refused instead. The words
+//! of faults and bad samples are their definitions (`text_of`). [`HostLog::next`] takes the next block of a stream, or all that is
+//! left where there is none (`gives`, `blocks_of`); a block has at most 16777216 bytes (`short`) and is refused as too long only
+//! where it has more (`long`); where its line `---` is among the bytes at hand nothing is read (`at_hand`). A failed source is told
+//! (`failure`, `stays`).
+//!
+//! **Only tried**: examples of an independent program, and made streams beside a second reading of the format
+//! (`tools/steer-check`). **Not claimed**: that memory goes with the longest block; what calls after an error of `next` give.
 #![tactic(auto)]
 
 mod fault;

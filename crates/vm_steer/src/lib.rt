@@ -16,6 +16,20 @@
 //!
 //! The numbers of a sample take a few passes over its domains; names are sorted and looked up by halves. An entry of a list of decisions
 //! costs a few steps, and where they change hands a logarithm of the number of domains.
+//!
+//! **Proved**: a [`Steering`] is a policy and what was told of the last good sample; `sample` and `take` lead to what the
+//! definitions tell of the next one (`taken`: `next_told`), and the text is that of what is told (`text`); no number is lost,
+//! whatever 64-bit numbers the statistics have. Where memory is refused nothing is changed (`unchanged`). Laws, for every policy in
+//! range and every list of samples: a domain is ordered at least its minimum; where it is lowered, at least what it holds less the
+//! rate; where it is raised, at most its cap, which is at most its size ([`law_bounds`]). After the decisions all are meant to hold
+//! no more than before, or it fits into memory beside all else that is held and promised, and nothing is raised where more is held
+//! and promised than memory has ([`law_promise`]). Each revocation and each entry of rebalancing takes from a domain above its
+//! minimum whose adjusted ratio is least then ([`law_fairness`]). Where [`steer`] answers `Ok`, the policy isn't refused, no block
+//! is too long, the reader has ended, and what was written is the header, if there is one, and the text of each sample, and nothing
+//! else (`steers`, `ended`). Each error but want of memory has its cause, and each says what was written (`failed`); a failed
+//! reader or writer is told.
+//!
+//! **Not claimed**: that the text of a sample goes out before more is read; speed; that the policy is good for a host.
 #![tactic(auto)]
 
 mod balloon;
