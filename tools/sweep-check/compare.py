@@ -1,11 +1,12 @@
 #!/usr/bin/env python3
-"""Compares a vmsweep with reading.py: compare.py VMSWEEP VMMEM [--jobs N] [--also guests] made FIRST LAST | examples FOLDER [NAME..] | refused
+"""Compares a vmsweep with reading.py: compare.py VMSWEEP VMMEM [--jobs N] [--also guests] made FIRST LAST | drawn FIRST LAST | examples FOLDER [NAME..] |
+refused
 
-`made` tries the texts and words that made.py makes of the seeds FIRST to LAST. A FOLDER has NAME.json, NAME.words and NAME.csv; the reading's
+`made` tries the texts and words that made.py makes of the seeds FIRST to LAST, and `drawn` those that it makes of them to be drawn. A FOLDER has NAME.json, NAME.words and NAME.csv; the reading's
 tables have to be those of the files too. `refused` tries words that are refused, without running anything. With `--also guests` the words that
 change guests are there as well (--min-percent, --min, --shares, --seeds). Tables have to agree byte by byte, but where the reports of VMMEM leave
-a value open it has to be between the two that the reading gives; statuses and what is said have to agree too, as far as FORMATS has the words
-of it. What differs stays beside this script as differs-NAME.json and differs-NAME.words. N processes are at work (2).
+a value open it has to be between the two that the reading gives, or one of several; statuses and what is said have to agree too, as far as
+FORMATS has the words of it. What differs stays beside this script as differs-NAME.json and differs-NAME.words. N processes are at work (2).
 """
 import itertools
 import json
@@ -31,7 +32,9 @@ def ran(program, words, data):
 
 
 def is_field(found, expected):
-    """Whether a field is the one of the reading, or is between its two."""
+    """Whether a field is the one of the reading, or is between its two, or one of its several."""
+    if " or " in expected:
+        return found in expected.split(" or ")
     if found == expected or " to " not in expected:
         return found == expected
     least, most = expected.split(" to ")
@@ -67,8 +70,6 @@ def drawn(vmsweep, words, data, table, has_guests):
         asked = reading.Words(words + ["--svg"], has_guests)
     except reading.Refused as refused:
         return 0, list(differences((2, [], refused.said, 0), found))
-    if asked.changes_guests():
-        return None, []
     root = json.loads(data)
     page = root.get("page", 4) if root["version"] == 3 else 4
     wanted = drawing.drawing_of([row.split(",") for row in table.split("\r\n")[:-1]], page)
@@ -93,7 +94,7 @@ def compare(task):
             counts["refused drawings"] += is_drawn == 0
         if table is not None:
             differ += [f"{what} (of the file)" for what in differences(expected, (0, table, expected[2] or ""))]
-        counts.update({"records": max(0, len(expected[1]) - 1), "fields open": sum(" to " in field for fields in expected[1][1:] for field in fields),
+        counts.update({"records": max(0, len(expected[1]) - 1), "fields open": sum(" to " in field or " or " in field for fields in expected[1][1:] for field in fields),
                        "runs of vmmem": expected[3]})
     except runs.Wrong as wrong:
         differ = [f"vmmem: {wrong}"]
@@ -106,10 +107,11 @@ def compare(task):
 
 def tasks(words, has_guests):
     """(name, words, text, table or None)"""
-    if words[0] == "made":
+    if words[0] in ("made", "drawn"):
+        is_drawn = words[0] == "drawn"
         for seed in range(int(words[1]), int(words[2]) + 1):
-            data, given = made.made(seed, has_guests)
-            yield f"{seed}{'g' * has_guests}", given, data, None
+            data, given = made.made(seed, has_guests or is_drawn, is_drawn)
+            yield f"{seed}{'d' if is_drawn else 'g' * has_guests}", given, data, None
     elif words[0] == "examples":
         for path in sorted(Path(words[1]).glob("*.words")):
             if not words[2:] or path.stem in words[2:]:
@@ -136,6 +138,7 @@ def main(words):
     while words[0] in ("--jobs", "--also"):
         jobs, has_guests = (int(words[1]), has_guests) if words[0] == "--jobs" else (jobs, words[1] == "guests")
         words = words[2:]
+    has_guests = has_guests or words[0] == "drawn"
     begin, totals = time.time(), Counter()
     with multiprocessing.Pool(jobs) as pool:
         for name, differ, counts in results(pool, programs, words, has_guests):

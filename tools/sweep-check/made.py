@@ -1,9 +1,10 @@
 #!/usr/bin/env python3
-"""Makes a configuration text and words of vmsweep: made.py SEED [guests] writes the text to standard output, and the words to standard error.
+"""Makes a configuration text and words of vmsweep: made.py SEED [guests | drawn] writes the text to standard output, and the words to
+standard error.
 
 The same SEED makes the same bytes. Machines are often too small; guests start and stop, stall and are blocked; lines of texts raise and lower
 minimums and caps; names look like other lines of a report. Some texts and some words are refused. With `guests` there are the words that
-change guests too.
+change guests too; with `drawn` as well, of sweeps that can mostly be drawn, with several seeds.
 """
 import json
 import random
@@ -18,8 +19,8 @@ SIZES = ["4k", "8KiB", "{}k", "{}", "{}KiB", "0", "1b", "1M", "64k", "-1", "1T",
 
 
 class Maker:
-    def __init__(self, seed, has_guests=False):
-        self.r = random.Random(f"{seed} {has_guests}")
+    def __init__(self, seed, has_guests=False, is_drawn=False):
+        self.r = random.Random(f"{seed} {'drawn' if is_drawn else has_guests}")
         self.has_guests = has_guests
         self.version = self.r.choice([1, 2, 3, 3])
         # where much is swapped, and where free memory falls below all thresholds as guests start
@@ -280,6 +281,30 @@ class Maker:
             found.append(("seeds", r.choice(["1", "2", "3", "3"] + ["0", "1001", "1,2"] * self.chance(0.2))))
         return found
 
+    def few(self, values, most):
+        """One to `most` of these."""
+        return ",".join(map(str, self.r.sample(values, min(len(values), self.r.randint(1, most)))))
+
+    def drawn_words(self, root):
+        """Words of a sweep with few curves, mostly."""
+        r = self.r
+        first, step = min(self.frames(), 260000), r.choice([1, 2, 7, max(1, self.least // 3)])
+        found = [("frames", f"{first}..{first + r.randint(1, 4) * step}/{step}")]
+        loops = [(key, self.few(values, 3)) for key, values in (
+            ("swap", [0, self.reserve, self.size + 1, 5000000]), ("tax", [0, 75, "99.99", "0.5"]), ("page-rate", [1, 2, 256]),
+            ("rebalance", [0, 1, 3, 64]), ("min-percent", [1, 33, 50, 100]))]
+        for key in "min", "shares":
+            for guest in root["guests"]:
+                values = [1, guest["size"], (guest["size"] + 1) // 2] if key == "min" else [1, 1000, 1000000]
+                loops.append((key, f"{guest['name']}={self.few(sorted(set(values)), 2)}"))
+        found += r.sample(loops, min(len(loops), r.choice([0, 1, 1, 2, 2, 3])))
+        if self.chance(0.8):
+            found.append(("seeds", r.choice(["1", "2", "3", "4", "5", "8"])))
+        if self.chance(0.5):
+            found.append(("workers", r.choice(["1", "2", "3"])))
+        r.shuffle(found)
+        return [word for key, value in found for word in ([f"--{key}={value}"] if self.chance(0.5) else [f"--{key}", value])]
+
     def words(self, root):
         r = self.r
         lists = self.given()
@@ -296,17 +321,17 @@ class Maker:
         words = [[f"--{key}={value}"] if self.chance(0.5) or value[:1] == "-" else [f"--{key}", value] for key, value in pairs]
         words += [["--guests"]] * self.chance(0.4) + [["--progress"]] * self.chance(0.3)
         if self.chance(0.04):
-            words.append(r.choice([["--guests"], ["--frames", "5"], ["--workers", "0"], ["--workers=65"], ["--help"], ["text"], ["--swap"],
+            words.append(r.choice([["--guests"], ["--frames", "5"], ["--workers", "0"], ["--workers=65"], ["--help"], ["text", "text"], ["--swap"],
                                    ["--guests=1"], ["--seed", "1"]]))
         r.shuffle(words)
         return [word for pair in words for word in pair]
 
 
-def made(seed, has_guests=False):
+def made(seed, has_guests=False, is_drawn=False):
     """The text and the words of a seed."""
-    maker = Maker(seed, has_guests)
+    maker = Maker(seed, has_guests, is_drawn)
     root = maker.text()
-    words = maker.words(root)
+    words = maker.drawn_words(root) if is_drawn else maker.words(root)
     if maker.chance(0.06):
         return maker.spoiled(root), words
     indent = maker.r.choice([None, None, 1])
@@ -314,10 +339,10 @@ def made(seed, has_guests=False):
 
 
 def main(words):
-    if len(words) not in (1, 2) or not words[0].isdigit() or words[1:] not in ([], ["guests"]):
+    if len(words) not in (1, 2) or not words[0].isdigit() or words[1:] not in ([], ["guests"], ["drawn"]):
         print(__doc__)
         return 0 if words in (["-h"], ["--help"]) else 2
-    text, found = made(int(words[0]), len(words) == 2)
+    text, found = made(int(words[0]), len(words) == 2, words[1:] == ["drawn"])
     sys.stdout.buffer.write(text)
     sys.stderr.buffer.write(("\n".join(found) + "\n").encode("utf-8", "surrogateescape"))
     return 0

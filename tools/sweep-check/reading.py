@@ -4,8 +4,8 @@
     reading.py VMMEM [WORDS..] < TEXT
 
 WORDS are those of vmsweep; with --svg the table is that of which drawing.py makes the drawing. --jobs N at their end makes records by N
-processes. A value that the reports of vmmem leave open is written as LEAST to GREATEST; `runs.py` says which these are. It knows
---min-percent, --min, --shares and --seeds too.
+processes. A value that the reports of vmmem leave open is written as LEAST to GREATEST, or as THIS or THAT; `runs.py` says which these are.
+It knows --min-percent, --min, --shares and --seeds too.
 """
 import json
 import multiprocessing
@@ -115,16 +115,16 @@ class Words:
         self.seeds = self.small(given["seeds"][0], 1000) if "seeds" in given else None
         self.lists = {kind.key: kind.read(given[kind.key][0]) for kind in PLAIN if kind.key in given}
         self.mins, self.shares = self.of_guests(MIN, given.get("min", [])), self.of_guests(SHARES, given.get("shares", []))
-        if len(self.mins) + len(self.shares) > 8:
-            raise Refused(2, None)
         for key, named in ("min", self.mins), ("shares", self.shares):
             for place, (name, _) in enumerate(named):
                 if re.fullmatch(r"[A-Za-z0-9_.][A-Za-z0-9_.-]{0,31}", name, re.A) is None:
                     raise Refused(2, f"vmsweep: --{key} {name}: no name\n")
                 if any(name == earlier for earlier, _ in named[:place]):
                     raise Refused(2, f"vmsweep: --{key} {name}: twice\n")
+        if len(self.mins) + len(self.shares) > 8:
+            raise Refused(2, "vmsweep: more than 8 lists of --min and --shares\n")
         if self.count() > MOST:
-            raise Refused(2, "vmsweep: more than 10000 combinations\n" if not self.changes_guests() else None)
+            raise Refused(2, f"vmsweep: more than 10000 {'runs' if self.seeds else 'combinations'}\n")
         if self.svg:
             self.check_drawing()
 
@@ -136,7 +136,9 @@ class Words:
             raise Refused(2, "vmsweep: --svg: the values of --frames do not rise\n")
         if self.count() // (len(frames) * (self.seeds or 1)) > 12:
             what = "--swap, --tax, --page-rate and --rebalance" if "rebalance" in self.lists else "--swap, --tax and --page-rate"
-            raise Refused(2, f"vmsweep: --svg: more than 12 combinations of {what}\n" if not self.changes_guests() else None)
+            if self.changes_guests():
+                what = "all loops but frames and seeds"
+            raise Refused(2, f"vmsweep: --svg: more than 12 combinations of {what}\n")
 
     def split(self, words):
         """The values of each word that is given, as clap reads them."""
@@ -169,7 +171,7 @@ class Words:
         for value in values:
             name, equals, items = value.partition("=")
             if not equals:
-                raise Refused(2, None)
+                raise kind.refused(len(value.encode("utf-8", "surrogateescape")), "no = behind the name")
             found.append((name, kind.read(items, len((name + "=").encode("utf-8", "surrogateescape")))))
         return found
 
@@ -241,7 +243,7 @@ def changed_itself(root, combination):
 
 SETTINGS = ["frames", "swap", "tax", "page_rate"]
 OF_RUNS = ["high", "soft", "hard", "low", "least_free", "no_memory", "no_swap", "revoked", "paged", "evicted", "granted", "blocked", "stalls",
-           "done", "left", "most_swapped", "swapped", "balloon", "fits"]
+           "done", "left", "most_swapped", "swapped", "balloon", "fits", "worst"]
 OF_GUESTS = ["guest", "epochs", "revoked", "paged", "evicted", "granted", "blocked", "stalls", "done", "left", "most_swapped", "target", "held",
              "swapped", "balloon"]
 
@@ -273,6 +275,16 @@ def both(pairs):
 def greatest(pairs):
     pairs = list(pairs) or [(0, 0)]
     return max(low for low, _ in pairs), max(high for _, high in pairs)
+
+
+def worst(sent):
+    """The first epoch with the most pages sent to swap, of a pair for each; a list where more than one may be it. Empty where none was sent."""
+    least = max((low for low, _ in sent), default=0)
+    found = [] if least else [""]
+    for epoch, (_, high) in enumerate(sent):
+        if high and all(high > low for low, _ in sent[:epoch]) and all(high >= low for low, _ in sent[epoch + 1:]):
+            found.append(epoch)
+    return found if len(found) > 1 else found[0]
 
 
 def counted(run, word, guest=None):
@@ -313,6 +325,7 @@ def of_run(run):
     fields["no_memory"], fields["no_swap"] = answers.count(["error", "8"]), answers.count(["error", "9"])
     is_calm = not any(fields[key] for key in ("no_memory", "no_swap", "blocked", "stalls"))
     least, most = fields["most_swapped"]
+    fields["worst"] = worst([both(sent for _, sent in swaps.values()) for swaps in run.swaps])
     fields["fits"] = "no" if not is_calm or least else "yes" if not most else "yes to no"
     return fields
 
@@ -329,7 +342,9 @@ def of_guest(run, guest):
 
 
 def field(value):
-    """A field, or the two between which it is."""
+    """A field, or the two between which it is, or all that it may be."""
+    if isinstance(value, list):
+        return " or ".join(map(str, value))
     if isinstance(value, tuple):
         return str(value[0]) if value[0] == value[1] else f"{value[0]} to {value[1]}"
     return str(value)
