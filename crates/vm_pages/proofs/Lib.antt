@@ -1,8 +1,11 @@
 mod BitLemmas
 mod BlockLemmas
+mod BlockRuns
 mod RunLemmas
 mod ExtremeLemmas
+mod Outside
 mod WordExtremes
 mod WordLemmas
+mod PlaceLemmas
 pub mod PageSets
 pub mod Listings

@@ -1,9 +1,9 @@
 -- For callers: a set of pages after a change, and how many pages it has.
-use Rattle.std.proofs.Common.{◌≡◌, ◌≢◌, ℕ, zero, suc, ◌+◌, ◌<◌, ◌≤◌, Bool, true, false, cond, List, [], ◌∷◌, length, set, refl, sym, ap, ◌∙◌, inl, inr, arith}
+use Rattle.std.proofs.Common.{◌≡◌, ◌≢◌, ℕ, zero, suc, ◌+◌, ◌<◌, ◌≤◌, Bool, true, false, not, ◌||◌, cond, List, [], ◌∷◌, Option, Some, None, length, set, refl, sym, ap, ◌∙◌, inl, inr, arith}
 use Rattle.std.proofs.lemmas.List.{length-set, length-replicate, set-get_or, get_or_past, get_or-set_same, get_or-set_other, get_or-replicate}
 use Rattle.std.proofs.lemmas.Bool.{cases_eq, cases_lt}
 use Rattle.std.proofs.lemmas.List.Sums.{sum_by-cons, sum_by-set, count_by-le-length}
-use Rattle.vm_pages.specs.Pages.{no_pages, all_pages, contains, insert, remove, insert_all, remove_all, count}
+use Rattle.vm_pages.specs.Pages.{no_pages, all_pages, contains, insert, remove, insert_all, remove_all, neither, without, count}
 
 -- a change keeps the guest's size
 pub length-insert : (pages : List Bool) (page : ℕ) → length (insert pages page) ≡ length pages
@@ -25,6 +25,16 @@ length-insert_all pages (page ∷ added) = length-insert_all (insert pages page)
 pub length-remove_all : (pages : List Bool) (removed : List ℕ) → length (remove_all pages removed) ≡ length pages
 length-remove_all pages [] = refl
 length-remove_all pages (page ∷ removed) = length-remove_all (remove pages page) removed ∙ length-remove pages page
+
+pub length-neither : (pages others : List Bool) → length pages ≡ length others → length (neither pages others) ≡ length pages
+length-neither [] [] same = refl
+length-neither [] (other ∷ others) same = refl
+length-neither (page ∷ pages) [] same = absurd (omega arith)
+length-neither (page ∷ pages) (other ∷ others) same = omega (arith, length-neither pages others (omega arith))
+
+pub length-without : (pages : List Bool) (page : Option ℕ) → length (without pages page) ≡ length pages
+length-without pages None = refl
+length-without pages (Some page) = length-remove pages page
 
 -- a page of the set is one of the guest's
 pub lt-length : (pages : List Bool) (page : ℕ) → contains pages page ≡ true → page < length pages
@@ -70,6 +80,13 @@ contains-remove_same pages page =
 
 pub contains-remove_other : (pages : List Bool) (page other : ℕ) → other ≢ page → contains (remove pages page) other ≡ contains pages other
 contains-remove_other pages page other differs = get_or-set_other pages page other false false differs
+
+pub contains-neither : (pages others : List Bool) (page : ℕ) → length pages ≡ length others → page < length pages
+    → contains (neither pages others) page ≡ not (contains pages page || contains others page)
+contains-neither [] others page same below = absurd (omega arith)
+contains-neither (first ∷ pages) [] page same below = absurd (omega arith)
+contains-neither (first ∷ pages) (other ∷ others) zero same below = refl
+contains-neither (first ∷ pages) (other ∷ others) (suc page) same below = contains-neither pages others page (omega arith) (omega arith)
 
 -- an insertion loses no page, and a removal brings none
 pub contains-insert_kept : (pages : List Bool) (page other : ℕ) → contains pages other ≡ true → contains (insert pages page) other ≡ true
@@ -157,3 +174,12 @@ pub no_pages-of_count : (pages : List Bool) → count pages ≡ 0 → pages ≡ 
 no_pages-of_count [] none = refl
 no_pages-of_count (true ∷ pages) none = absurd (omega (arith, count-cons true pages))
 no_pages-of_count (false ∷ pages) none = ap (λ rest. false ∷ rest) (no_pages-of_count pages (omega (arith, count-cons false pages)))
+
+-- a page that one set doesn't have may come into another one that has no page in common with it
+pub apart-insert : (pages others : List Bool) (page : ℕ) → ((p : ℕ) → contains others p ≡ true → contains pages p ≡ false) → contains pages page ≡ false
+    → (p : ℕ) → contains (insert others page) p ≡ true → contains pages p ≡ false
+apart-insert pages others page apart absent p there =
+    elim (cases_eq p page) [
+      | inl same ↦ rw same absent
+      | inr differs ↦ apart p (sym (contains-insert_other others page p differs) ∙ there)
+    ]

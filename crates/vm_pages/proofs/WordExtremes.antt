@@ -8,6 +8,14 @@ use Rattle.vm_pages.proofs.BitLemmas.{IsTop, IsLowest}
 use Rattle.vm_pages.proofs.ExtremeLemmas.{greatest_from-none, greatest_from-marked, least_below-none, least_below-marked}
 use Rattle.vm_pages.proofs.WordLemmas.{length-marked, contains-bit, count_below-bits}
 
+-- a list of the greatest pages down to those that a word marks below a place, which are `lower`
+pub record IsListedDown (words : List ℕ) (pages word most lower : ℕ) (list : List ℕ) : Type 0 where
+  pub place : ℕ
+  pub few : place ≤ 64
+  pub inside : word * 64 + place ≤ pages
+  pub bits : lower ≡ get_or words word 0 % 2 ^ place
+  pub listed : list ≡ greatest_from (marked words pages) (word * 64 + place) most
+
 -- down to the greatest set bit below a place
 pub greatest_from-top : (words : List ℕ) (size word place rest bit most : ℕ) → IsTop (get_or words word 0) place rest bit → rest ≡ get_or words word 0 % 2 ^ place → place ≤ 64 → word * 64 + place ≤ size
     → length (greatest_from (marked words size) (word * 64 + place) most) < most

@@ -1,19 +1,17 @@
 -- Pages that are marked by bits: which are, after a change too, and how many are in a word.
-use Rattle.std.proofs.Common.{◌≡◌, ◌≢◌, ℕ, zero, suc, ◌+◌, ◌-◌, ◌*◌, ◌/◌, ◌%◌, ◌^◌, ◌++◌, take, drop, bit_and, bit_or, count_ones, ◌<◌, ◌≤◌, Bool, true, false, eqb, cond, List, length, set, get_or, replicate, w64, refl, sym, ap, ◌∙◌, inl, inr, arith}
+use Rattle.std.proofs.Common.{◌≡◌, ◌≢◌, ℕ, zero, suc, ◌+◌, ◌-◌, ◌*◌, ◌/◌, ◌%◌, ◌^◌, ◌++◌, [], bit_and, bit_or, count_ones, ◌<◌, ◌≤◌, Bool, true, false, eqb, cond, List, length, set, get_or, replicate, w64, refl, sym, ap, ◌∙◌, inl, inr, arith}
 use Rattle.std.specs.Int.{bit_at}
 use Rattle.std.proofs.lemmas.Bool.{cases_eq, cases_lt}
-use Rattle.std.proofs.lemmas.List.{length-set, get_or-set_same, get_or-set_other, get_or-replicate, get_or_past, length-replicate}
+use Rattle.std.proofs.lemmas.List.{length-set, length-append, get_or-set_same, get_or-set_other, get_or-replicate, get_or_read, get_or_past, get_or_append_left, get_or-append_right, length-replicate}
 use Rattle.std.proofs.lemmas.List.FromFn.{length-map-range_with_len, get_or-map-range_with_len}
 use Rattle.std.proofs.lemmas.Nat.{ones_cat, mod-pow-add, mod_below, pow_pos}
 use Rattle.std.proofs.lemmas.Nat.Bits.{bit_at-zero, bit_at-lt, bit_at_ones, bit_at_set_same, bit_at_set_other, bit_at_clear_same, bit_at_clear_other}
 use lib.Count.{ones}
 use Rattle.vm_pages.specs.Pages.{no_pages, all_pages, contains, insert, remove, count, count_below}
-use Rattle.std.proofs.Math.Seq.{take-append_seam}
 use Rattle.vm_pages.specs.Blocks.{AreCounted}
 use Rattle.vm_pages.specs.Words.{is_marked, marked, AreKept}
 use Rattle.vm_pages.proofs.BitLemmas.{ones-mono, ones-split}
-use Rattle.vm_pages.proofs.BlockLemmas.{AreCounted-none}
-use Rattle.vm_pages.proofs.PageSets.{same_pages, length-no_pages, length-all_pages, contains-no_pages, contains-all_pages}
+use Rattle.vm_pages.proofs.PageSets.{same_pages, length-no_pages, length-all_pages, contains-no_pages, contains-all_pages, remove-absent}
 use Rattle.vm_pages.proofs.Listings.{count_below_more, count_below_all}
 
 pub length-marked : (words : List ℕ) (size : ℕ) → length (marked words size) ≡ size
@@ -25,20 +23,58 @@ unfolding marked
 contains-marked words size page there = get_or-map-range_with_len (is_marked words) 0 size page page false there (omega arith)
 
 -- words of zeros mark no page
+get_or-zeros : (n i : ℕ) → get_or {A = ℕ} (replicate n 0) i 0 ≡ 0
+get_or-zeros n i =
+    elim (cases_lt i n) [
+      | inl below ↦ get_or-replicate n i 0 0 below
+      | inr past ↦ get_or_past (replicate n 0) i 0 (omega (arith, length-replicate {A = ℕ} n 0))
+    ]
+
 unmarked : (n page : ℕ) → is_marked (replicate n 0) page ≡ false
-unmarked n page = ap (λ (word : ℕ). eqb (bit_at word (page % 64)) 1) zeros ∙ ap (λ bit. eqb bit 1) (bit_at-zero (page % 64))
-  where
-    zeros : get_or {A = ℕ} (replicate n 0) (page / 64) 0 ≡ 0
-    zeros =
-        elim (cases_lt (page / 64) n) [
-          | inl below ↦ get_or-replicate n (page / 64) 0 0 below
-          | inr past ↦ get_or_past (replicate n 0) (page / 64) 0 (omega (arith, length-replicate {A = ℕ} n 0))
-        ]
+unmarked n page = ap (λ (word : ℕ). eqb (bit_at word (page % 64)) 1) (get_or-zeros n (page / 64)) ∙ ap (λ bit. eqb bit 1) (bit_at-zero (page % 64))
 
 pub marked-none : (n size : ℕ) → marked (replicate n 0) size ≡ no_pages size
 marked-none n size =
     same_pages (marked (replicate n 0) size) (no_pages size) (length-marked (replicate n 0) size ∙ sym (length-no_pages size))
     (λ page there. contains-marked (replicate n 0) size page (omega (arith, length-marked (replicate n 0) size)) ∙ unmarked n page ∙ sym (contains-no_pages size page))
+
+-- no words mark no page
+pub marked-nil : (size : ℕ) → marked [] size ≡ no_pages size
+marked-nil size = marked-none 0 size
+
+-- words that reach further, by zeros, mark the same pages
+pub get_or-grown : (words : List ℕ) (n word : ℕ) → get_or (words ++ replicate n 0) word 0 ≡ get_or words word 0
+get_or-grown words n word =
+    elim (cases_lt word (length words)) [
+      | inl below ↦ get_or_append_left words (replicate n 0) 0 word below
+      | inr past ↦ get_or-append_right words (replicate n 0) (length words) word 0 refl past ∙ get_or-zeros n (word - length words) ∙ sym (get_or_past words word 0 past)
+    ]
+
+pub length-grown : (words : List ℕ) (n : ℕ) → length (words ++ replicate n 0) ≡ length words + n
+length-grown words n = length-append words (replicate n 0) ∙ omega (arith, length-replicate {A = ℕ} n 0)
+
+pub marked-grown : (words : List ℕ) (n size : ℕ) → marked (words ++ replicate n 0) size ≡ marked words size
+marked-grown words n size =
+    same_pages (marked after size) (marked words size) (length-marked after size ∙ sym (length-marked words size))
+    (λ page there. let below : page < size = omega (arith, there, length-marked after size) in
+    contains-marked after size page below ∙ ap (λ (word : ℕ). eqb (bit_at word (page % 64)) 1) (get_or-grown words n (page / 64)) ∙ sym (contains-marked words size page below))
+  where
+    after : List ℕ
+    after = words ++ replicate n 0
+
+-- a page past the words is not marked
+pub remove-past : (words : List ℕ) (size page : ℕ) → length words ≤ page / 64 → remove (marked words size) page ≡ marked words size
+remove-past words size page past = remove-absent (marked words size) page absent
+  where
+    no_word : is_marked words page ≡ false
+    no_word = ap (λ (word : ℕ). eqb (bit_at word (page % 64)) 1) (get_or_past words (page / 64) 0 past) ∙ ap (λ bit. eqb bit 1) (bit_at-zero (page % 64))
+
+    absent : contains (marked words size) page ≡ false
+    absent =
+        elim (cases_lt page size) [
+          | inl below ↦ contains-marked words size page below ∙ no_word
+          | inr above ↦ get_or_past (marked words size) page false (omega (arith, length-marked words size))
+        ]
 
 -- words of ones mark each page
 pub marked-all : (n size : ℕ) → size ≤ n * 64 → marked (replicate n (2 ^ 64 - 1)) size ≡ all_pages size
@@ -100,6 +136,19 @@ marked-insert words size page there =
     word : ℕ
     word = get_or words (page / 64) 0
 
+-- a page is marked in words that reach it first, where its word was read
+pub marked-insert_grown : (words : List ℕ) (size page n read : ℕ) → page / 64 < length words + n → read ≡ get_or (words ++ replicate n 0) (page / 64) read
+    → marked (set (words ++ replicate n 0) (page / 64) (bit_or read (1 * 2 ^ (page % 64) % 2 ^ 64))) size ≡ insert (marked words size) page
+marked-insert_grown words size page n read there is =
+    rw (get_or_read grown (page / 64) read reached is 0)
+    (marked-insert grown size page reached ∙ ap (λ (pages : List Bool). insert pages page) (marked-grown words n size))
+  where
+    grown : List ℕ
+    grown = words ++ replicate n 0
+
+    reached : page / 64 < length grown
+    reached = omega (arith, there, length-grown words n)
+
 pub marked-remove : (words : List ℕ) (size page : ℕ) → page / 64 < length words
     → marked (set words (page / 64) (bit_and (get_or words (page / 64) 0) (2 ^ 64 - 1 - 1 * 2 ^ (page % 64) % 2 ^ 64))) size ≡ remove (marked words size) page
 marked-remove words size page there =
@@ -107,6 +156,10 @@ marked-remove words size page there =
   where
     word : ℕ
     word = get_or words (page / 64) 0
+
+pub marked-remove_read : (words : List ℕ) (size page read : ℕ) → page / 64 < length words → read ≡ get_or words (page / 64) read
+    → marked (set words (page / 64) (bit_and read (2 ^ 64 - 1 - 1 * 2 ^ (page % 64) % 2 ^ 64))) size ≡ remove (marked words size) page
+marked-remove_read words size page read there is = rw (get_or_read words (page / 64) read there is 0) (marked-remove words size page there)
 
 -- one bit more of a word
 ones-more : (word n : ℕ) → count_ones (word % 2 ^ (1 + n)) ≡ bit_at word n + count_ones (word % 2 ^ n)
@@ -237,36 +290,32 @@ is_page words size word place k begins few set is there = record {
               absurd (omega (arith, all, there, is, count_below-bits words size word (size - word * 64) (omega arith) (omega arith), ones-mono (get_or words word 0) (size - word * 64) place (omega arith)))
         ]
 
--- a slice that is written back to a list of its length
-pub written_back : (len : ℕ) (new old : List ℕ) → length new ≡ len → take len (new ++ drop (length new) old) ≡ new
-written_back len new old is = ap (λ n. take n (new ++ drop (length new) old)) (sym is) ∙ take-append_seam new (drop (length new) old)
-
 -- a set whose words and counts have changed alike
-pub AreKept-after : (words after : List ℕ) (size : ℕ) (counts : List ℕ) (len : ℕ) (pages : List Bool) → size ≤ length words * 64 → length after ≡ length words
-    → marked after size ≡ pages → AreCounted pages counts len → AreKept after size counts len
-AreKept-after words after size counts len pages marks same is counted = record {
-  marks = omega (arith, marks, same);
+pub AreKept-after : (after : List ℕ) (room more size : ℕ) (counts : List ℕ) (len : ℕ) (pages : List Bool) → size ≤ room * 64 → room ≤ more
+    → marked after size ≡ pages → AreCounted pages counts len → AreKept after more size counts len
+AreKept-after after room more size counts len pages marks up is counted = record {
+  marks = omega (arith, marks, up);
   counted = rw is counted;
 }
 
 -- the empty set
-pub AreKept-none : (n size blocks : ℕ) → size ≤ n * 64 → size ≤ blocks * 2048 → blocks ≤ size → size < 2 ^ 32 → AreKept (replicate n 0) size (replicate blocks 0) 0
-AreKept-none n size blocks marks cover few fits = record {
-  marks = omega (arith, marks, length-replicate {A = ℕ} n 0);
-  counted = rw (marked-none n size) (AreCounted-none size blocks cover few fits);
+pub AreKept-none : (room size : ℕ) (counts : List ℕ) → size ≤ room * 64 → AreCounted (no_pages size) counts 0 → AreKept [] room size counts 0
+AreKept-none room size counts marks counted = record {
+  marks = marks;
+  counted = rw (marked-nil size) counted;
 }
 
--- a page of the set has a word
-pub has_word : (words : List ℕ) (size page : ℕ) → size ≤ length words * 64 → page < length (marked words size) → page / 64 < length words
-has_word words size page marks there = omega (arith, marks, there, length-marked words size)
+-- there is room for the word of a page
+pub has_room : (words : List ℕ) (room size page : ℕ) → size ≤ room * 64 → page < length (marked words size) → page / 64 < room
+has_room words room size page marks there = omega (arith, marks, there, length-marked words size)
 
 -- what is read of a page's bit is whether the set has it
 pub read-marked : (words : List ℕ) (size page : ℕ) (mark : Bool) → page < length (marked words size) → mark ≡ is_marked words page → contains (marked words size) page ≡ mark
 read-marked words size page mark there read = contains-marked words size page (omega (arith, there, length-marked words size)) ∙ sym read
 
 -- the set of all pages
-pub AreKept-all : (n size : ℕ) (counts : List ℕ) → size ≤ n * 64 → AreCounted (all_pages size) counts size → AreKept (replicate n (2 ^ 64 - 1)) size counts size
-AreKept-all n size counts marks counted = record {
-  marks = omega (arith, marks, length-replicate {A = ℕ} n (2 ^ 64 - 1));
+pub AreKept-all : (n room size : ℕ) (counts : List ℕ) → size ≤ n * 64 → n ≤ room → AreCounted (all_pages size) counts size → AreKept (replicate n (2 ^ 64 - 1)) room size counts size
+AreKept-all n room size counts marks up counted = record {
+  marks = omega (arith, marks, up);
   counted = rw (marked-all n size marks) counted;
 }

@@ -3,3 +3,5 @@ pub mod Blocks
 pub mod Words
 pub mod Extremes
 pub mod Runs
+pub mod PageTable
+pub mod Places

@@ -1,6 +1,6 @@
 -- Sets of the pages of a guest: one flag for each page, which says whether the page is in the set. The length of the list is
 -- the guest's size in pages.
-use Rattle.std.specs.Prelude.{ℕ, ◌+◌, Bool, true, false, List, [], ◌∷◌, take, replicate, fold, slice_set, slice_index_or, count_by}
+use Rattle.std.specs.Prelude.{ℕ, ◌+◌, ◌||◌, Bool, true, false, not, List, [], ◌∷◌, Option, Some, None, take, replicate, fold, slice_set, slice_index_or, count_by}
 
 -- the empty set, of a guest of `size` pages
 abbrev pub no_pages : ℕ → List Bool
@@ -29,6 +29,16 @@ insert_all pages added = fold insert pages added
 -- the set without any of a list of pages
 abbrev pub remove_all : List Bool → List ℕ → List Bool
 remove_all pages removed = fold remove pages removed
+
+-- the pages that are in neither of two sets
+abbrev pub neither : List Bool → List Bool → List Bool
+neither (a ∷ pages) (b ∷ others) = not (a || b) ∷ neither pages others
+neither _ _ = []
+
+-- the set without a page, if one is given
+abbrev pub without : List Bool → Option ℕ → List Bool
+without pages None = pages
+without pages (Some page) = remove pages page
 
 -- how many pages are in the set
 abbrev pub count : List Bool → ℕ

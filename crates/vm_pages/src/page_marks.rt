@@ -1,8 +1,7 @@
-ghost use Rattle.std.specs.Prelude.{◌≡◌, ◌<◌, IfOk, OnErr, length};
-ghost use Rattle.vm_pages.specs.Pages.{no_pages, contains, insert, remove};
+ghost use Rattle.std.specs.Prelude.{◌≡◌, ◌<◌, ◌≤◌, All, IfOk, OnErr, length, take};
+ghost use Rattle.vm_pages.specs.Pages.{no_pages, contains, insert, insert_all, remove, remove_all};
 
-use crate::page_set::filled;
-use crate::words::{WORD_PAGES, is_marked, mark, unmark};
+use crate::words::{WORD_PAGES, is_marked, mark, mark_run, unmark, unmark_run};
 use std::alloc::{AllocError, Global};
 use std::marker::Model;
 
@@ -10,22 +9,25 @@ use std::marker::Model;
 ///
 /// A contract sees them as a [`PageSet`](crate::PageSet): a list of one flag for each page. They are one bit for each page and
 /// nothing more: they can't be counted or listed, and so a mark is the change of one word alone. No call but
-/// [`PageMarks::new`] takes memory, and each of the others takes constant time.
+/// [`PageMarks::new`] takes memory, which it only reserves: a word of it is written when a page of it or of a greater word is
+/// marked. [`PageMarks::insert_all`] and [`PageMarks::remove_all`] take time for their list, and each other call takes constant
+/// time, but for the words that a mark is the first to reach.
 #[derive(Drop)]
 pub struct PageMarks {
     size: u32,
+    // Up to the last one that was ever changed, in room for all.
     words: Vec<u64>,
 }
 
 impl Model for PageMarks {
-    ghost use Rattle.std.specs.Prelude.{◌*◌, ◌≤◌, List, Bool, length};
+    ghost use Rattle.std.specs.Prelude.{◌*◌, ◌≤◌, List, Bool, vec_capacity};
     ghost use Rattle.vm_pages.specs.Words.{marked};
 
     ghost Value = { List Bool };
 
     ghost view = { λ m. marked m.words.items m.size };
 
-    ghost invariant = { λ m. m.size ≤ length m.words.items * 64 };
+    ghost invariant = { λ m. m.size ≤ vec_capacity m.words * 64 };
 }
 
 impl PageMarks {
@@ -36,8 +38,15 @@ impl PageMarks {
         ensures marks { IfOk result (λ m. m ≡ no_pages size) }
         ensures memory { OnErr result (0 < size) }
     {
-        let words = filled(alloc, (size as usize).div_ceil(WORD_PAGES), 0)?;
+        let words = Vec::with_capacity(alloc, (size as usize).div_ceil(WORD_PAGES))?;
         Ok(PageMarks { size, words })
+    }
+
+    /// Takes all marks away, in constant time.
+    pub fn clear(&mut self)
+        ensures { self.new ≡ no_pages (length self.old) }
+    {
+        self.words.clear();
     }
 
     /// Marks a page.
@@ -56,6 +65,56 @@ impl PageMarks {
         ensures size { length self.new ≡ length self.old }
     {
         unmark(&mut self.words, page as usize);
+    }
+
+    /// Marks pages, in time for their list. It is faster where the pages of a word stand behind one another.
+    pub fn insert_all(&mut self, pages: &[u32])
+        requires { All (λ page. page < length self.old) pages.now }
+        ensures after { self.new ≡ insert_all self.old pages.now }
+        ensures size { length self.new ≡ length self.old }
+    {
+        let mut done = 0;
+        while done < pages.len() {
+            done += self.insert_run(&pages[done..]);
+        }
+    }
+
+    // Marks those pages that a list begins with and that are of one word, and says how many they are.
+    fn insert_run(&mut self, pages: &[u32]) -> usize
+        requires some { 0 < length pages.now }
+        requires in_range { All (λ page. page < length self.old) pages.now }
+        ensures further { 0 < result }
+        ensures within { result ≤ length pages.now }
+        ensures after { self.new ≡ insert_all self.old (take result pages.now) }
+        ensures size { length self.new ≡ length self.old }
+    {
+        let (run, _) = mark_run(&mut self.words, pages);
+        run
+    }
+
+    /// Takes the marks of pages away, in time for their list. It is faster where the pages of a word stand behind one another.
+    pub fn remove_all(&mut self, pages: &[u32])
+        requires { All (λ page. page < length self.old) pages.now }
+        ensures after { self.new ≡ remove_all self.old pages.now }
+        ensures size { length self.new ≡ length self.old }
+    {
+        let mut done = 0;
+        while done < pages.len() {
+            done += self.remove_run(&pages[done..]);
+        }
+    }
+
+    // Takes the marks of those pages away that a list begins with and that are of one word, and says how many they are.
+    fn remove_run(&mut self, pages: &[u32]) -> usize
+        requires some { 0 < length pages.now }
+        requires in_range { All (λ page. page < length self.old) pages.now }
+        ensures further { 0 < result }
+        ensures within { result ≤ length pages.now }
+        ensures after { self.new ≡ remove_all self.old (take result pages.now) }
+        ensures size { length self.new ≡ length self.old }
+    {
+        let (run, _) = unmark_run(&mut self.words, pages);
+        run
     }
 
     /// Whether a page is marked.

@@ -1,10 +1,13 @@
-ghost use Rattle.std.specs.Prelude.{◌≡◌, ◌+◌, ◌*◌, ◌^◌, ◌<◌, ◌≤◌, ◌↔◌, All, [], not, length, reverse, take, sum, slice_index, replicate, vec_capacity, count_ones, IfOk, IsTrue, OnErr};
-ghost use Rattle.vm_pages.specs.Pages.{no_pages, all_pages, contains, insert, remove, remove_all, count, count_below, members};
+ghost use Rattle.std.specs.Prelude.{◌≡◌, ℕ, ◌+◌, ◌-◌, ◌*◌, ◌%◌, ◌^◌, ◌<◌, ◌≤◌, ◌↔◌, All, List, [], true, false, not, length, min, reverse, take, sum, slice_index, replicate, vec_capacity, count_ones, IfOk, IsTrue, OnErr};
+ghost use Rattle.vm_pages.specs.Pages.{no_pages, all_pages, contains, insert, insert_all, remove, remove_all, count, count_below, members, neither, without};
 ghost use Rattle.vm_pages.specs.Blocks.{AreCounted};
 ghost use Rattle.vm_pages.specs.Extremes.{greatest_from, least_below};
 ghost use Rattle.vm_pages.specs.Words.{marked};
 
-use crate::words::{WORD_PAGES, is_marked, mark, marks_in, nth_bit, unmark, unmark_run, word_of};
+use crate::words::{
+    WORD_PAGES, is_marked, mark, mark_run, marks_in, marks_outside, nth_bit, unmark, unmark_run,
+    word_at, word_of,
+};
 use std::alloc::{AllocError, Global};
 use std::marker::Model;
 
@@ -19,33 +22,37 @@ const BLOCK_WORDS: usize = BLOCK_PAGES / WORD_PAGES;
 /// A contract sees it as a list of one flag for each page, and the words for such a list (`contains`, `insert`, `members`..)
 /// stand in `specs/Pages.antt`. No call but [`PageSet::new`] and [`PageSet::all`] takes memory.
 ///
-/// It keeps one bit for each page, 64 to a word, and one count for each block of 2048 pages. So [`PageSet::nth`] passes over the
-/// counts and then over the 32 words of one block, [`PageSet::list_greatest`] and [`PageSet::list_least`] pass over the counts and
-/// over the words of those blocks whose pages they list, [`PageSet::remove_all`] takes time for its list, and all other calls take
-/// constant time.
+/// It keeps one bit for each page, 64 to a word, and one count for each block of 2048 pages. [`PageSet::new`] only reserves the
+/// words: one of them is written when a page of it or of a greater word comes in. So an empty set costs nothing by its size but the
+/// counts, and [`PageSet::clear`] takes time for these alone. [`PageSet::nth`] passes over the counts and then over the 32 words of
+/// one block, [`PageSet::list_greatest`], [`PageSet::list_greatest_outside`] and [`PageSet::list_least`] pass over the counts and
+/// over the words of those blocks whose pages they list, [`PageSet::insert_all`] and [`PageSet::remove_all`] take time for their
+/// list, and all other calls take constant time, but for the words that a page is the first to reach.
 #[derive(Drop)]
 pub struct PageSet {
     // How many pages are in the set, in front, since mostly no more is looked at.
     len: u32,
     size: u32,
+    // Up to the last one that was ever changed, in room for all.
     words: Vec<u64>,
     counts: Vec<u32>,
 }
 
 impl Model for PageSet {
-    ghost use Rattle.std.specs.Prelude.{List, Bool};
+    ghost use Rattle.std.specs.Prelude.{List, Bool, vec_capacity};
     ghost use Rattle.vm_pages.specs.Words.{marked, AreKept};
 
     ghost Value = { List Bool };
 
     ghost view = { λ s. marked s.words.items s.size };
 
-    ghost invariant = { λ s. AreKept s.words.items s.size s.counts.items s.len };
+    ghost invariant = { λ s. AreKept s.words.items (vec_capacity s.words) s.size s.counts.items s.len };
 }
 
 // So many times the same item. Memory is wanted only for some.
-pub(crate) fn filled<T: Copy>(alloc: Global, count: usize, item: T) -> Result<Vec<T>, AllocError>
+fn filled<T: Copy>(alloc: Global, count: usize, item: T) -> Result<Vec<T>, AllocError>
     ensures items { IfOk result (λ v. v.items ≡ replicate count item) }
+    ensures room { IfOk result (λ v. count ≤ vec_capacity v) }
     ensures memory { OnErr result (0 < count) }
 {
     let mut items = Vec::with_capacity(alloc, count)?;
@@ -62,7 +69,7 @@ impl PageSet {
         ensures memory { OnErr result (0 < size) }
     {
         let pages = size as usize;
-        let words = filled(alloc, pages.div_ceil(WORD_PAGES), 0)?;
+        let words = Vec::with_capacity(alloc, pages.div_ceil(WORD_PAGES))?;
         let counts = filled(alloc, pages.div_ceil(BLOCK_PAGES), 0)?;
         Ok(PageSet {
             len: 0,
@@ -91,6 +98,15 @@ impl PageSet {
             words,
             counts,
         })
+    }
+
+    /// Takes all pages out, in time for the counts of the blocks.
+    pub fn clear(&mut self)
+        ensures { self.new ≡ no_pages (length self.old) }
+    {
+        self.words.clear();
+        self.counts.fill(0);
+        self.len = 0;
     }
 
     /// Adds a page, and says whether it wasn't there.
@@ -127,6 +143,34 @@ impl PageSet {
         true
     }
 
+    /// Adds pages, in time for their list. It is faster where the pages of a word stand behind one another.
+    pub fn insert_all(&mut self, pages: &[u32])
+        requires { All (λ page. page < length self.old) pages.now }
+        ensures after { self.new ≡ insert_all self.old pages.now }
+        ensures size { length self.new ≡ length self.old }
+    {
+        let mut done = 0;
+        while done < pages.len() {
+            done += self.insert_run(&pages[done..]);
+        }
+    }
+
+    // Adds those pages that a list begins with and that are of one word, and says how many they are.
+    fn insert_run(&mut self, pages: &[u32]) -> usize
+        requires some { 0 < length pages.now }
+        requires in_range { All (λ page. page < length self.old) pages.now }
+        ensures further { 0 < result }
+        ensures within { result ≤ length pages.now }
+        ensures after { self.new ≡ insert_all self.old (take result pages.now) }
+        ensures size { length self.new ≡ length self.old }
+    {
+        let block = pages[0] as usize / BLOCK_PAGES;
+        let (run, gained) = mark_run(&mut self.words, pages);
+        self.counts[block] += gained as u32;
+        self.len += gained as u32;
+        run
+    }
+
     /// Takes pages out, in time for their list. It is faster where the pages of a word stand behind one another.
     pub fn remove_all(&mut self, pages: &[u32])
         requires { All (λ page. page < length self.old) pages.now }
@@ -148,11 +192,9 @@ impl PageSet {
         ensures after { self.new ≡ remove_all self.old (take result pages.now) }
         ensures size { length self.new ≡ length self.old }
     {
-        let word = pages[0] / WORD_PAGES as u32;
-        let at = word as usize;
-        let (run, marks, lost) = unmark_run(self.words[at], word, pages);
-        self.words[at] = marks;
-        self.counts[at / BLOCK_WORDS] -= lost as u32;
+        let block = pages[0] as usize / BLOCK_PAGES;
+        let (run, lost) = unmark_run(&mut self.words, pages);
+        self.counts[block] -= lost as u32;
         self.len -= lost as u32;
         run
     }
@@ -213,6 +255,38 @@ impl PageSet {
         );
     }
 
+    /// Makes `pages` the list of the greatest pages that are in neither of two sets, but for one that is left out if it is given;
+    /// at most `most` of them, greatest first, in the room that `pages` has.
+    ///
+    /// It passes once over the counts of both sets' blocks, from the last one down, and over the words of those blocks that have
+    /// such pages, and stops at `most` pages.
+    pub fn list_greatest_outside(
+        &self,
+        other: &PageSet,
+        except: Option<u32>,
+        most: u32,
+        pages: &mut Vec<u32>,
+    )
+        requires same { length other.now ≡ length self.now }
+        requires apart { (page : ℕ) → contains other.now page ≡ true → contains self.now page ≡ false }
+        requires room { most ≤ vec_capacity pages.old }
+        ensures listed { pages.new.items ≡ take most (reverse (members (without (neither self.now other.now) except))) }
+        ensures in_range { All (λ page. page < length self.now) pages.new.items }
+        ensures room { vec_capacity pages.new ≡ vec_capacity pages.old }
+    {
+        pages.clear();
+        list_outside_of(
+            &self.counts,
+            &self.words,
+            &other.counts,
+            &other.words,
+            except,
+            self.size as usize,
+            most as usize,
+            pages,
+        );
+    }
+
     /// Makes `pages` the list of the least pages of the set, at most `most` of them, least first, in the room that `pages` has.
     /// The pages of the set stay in it.
     ///
@@ -254,7 +328,6 @@ fn block_of(counts: &[u32], k: u32) -> (usize, u32)
 
 // The page that a word marks after `k` others.
 fn page_in(words: &[u64], pages: usize, word: usize, k: u32) -> usize
-    requires marks { pages ≤ length words.now * 64 }
     requires begins { word * 64 < pages }
     requires there { count_below (marked words.now pages) (word * 64) + k < count (marked words.now pages) }
     requires within { k < count_ones (slice_index words.now word) }
@@ -262,12 +335,11 @@ fn page_in(words: &[u64], pages: usize, word: usize, k: u32) -> usize
     ensures there { IsTrue (contains (marked words.now pages) result) }
     ensures listed { result ≡ slice_index (members (marked words.now pages)) (count_below (marked words.now pages) (word * 64) + k) }
 {
-    word * WORD_PAGES + nth_bit(words[word], k) as usize
+    word * WORD_PAGES + nth_bit(word_at(words, word), k) as usize
 }
 
 // Lists the greatest pages, block by block from the last one down.
 fn list_greatest_of(counts: &[u32], words: &[u64], pages: usize, most: usize, list: &mut Vec<u32>)
-    requires marks { pages ≤ length words.now * 64 }
     requires counted { AreCounted (marked words.now pages) counts.now (count (marked words.now pages)) }
     requires empty { list.old.items ≡ [] }
     requires room { most ≤ vec_capacity list.old }
@@ -286,7 +358,6 @@ fn list_greatest_of(counts: &[u32], words: &[u64], pages: usize, most: usize, li
 
 // Adds the pages of a block to a list of the greatest ones, until it has `most`.
 fn list_block_down(words: &[u64], pages: usize, block: usize, most: usize, list: &mut Vec<u32>)
-    requires marks { pages ≤ length words.now * 64 }
     requires fits { pages < 2 ^ 32 }
     requires within { block * 2048 < pages }
     requires before { list.old.items ≡ greatest_from (marked words.now pages) ((block + 1) * 2048) most }
@@ -300,22 +371,22 @@ fn list_block_down(words: &[u64], pages: usize, block: usize, most: usize, list:
         if list.len() >= most {
             return;
         }
-        list_word_down(words, pages, word, most, list);
+        list_marks_down(marks_in(words, pages, word), word, most, list);
     }
 }
 
-// Adds the pages of a word to a list of the greatest ones, until it has `most`.
-fn list_word_down(words: &[u64], pages: usize, word: usize, most: usize, list: &mut Vec<u32>)
-    requires marks { pages ≤ length words.now * 64 }
-    requires fits { pages < 2 ^ 32 }
-    requires begins { word * 64 < pages }
-    requires before { list.old.items ≡ greatest_from (marked words.now pages) ((word + 1) * 64) most }
+// Adds the pages that a word marks to a list of the greatest ones, until it has `most`.
+fn list_marks_down(marks: u64, word: usize, most: usize, list: &mut Vec<u32>)
+    requires fits { word * 64 + 64 ≤ 2 ^ 32 }
     requires room { most ≤ vec_capacity list.old }
-    ensures after { list.new.items ≡ greatest_from (marked words.now pages) (word * 64) most }
+    ensures after { (words : List ℕ) (pages : ℕ) → word * 64 < pages
+        → marks ≡ slice_index words word % 2 ^ min 64 (pages - word * 64)
+        → list.old.items ≡ greatest_from (marked words pages) ((word + 1) * 64) most
+        → list.new.items ≡ greatest_from (marked words pages) (word * 64) most }
     ensures room { vec_capacity list.new ≡ vec_capacity list.old }
 {
     let start = word * WORD_PAGES;
-    let mut lower = marks_in(words, pages, word);
+    let mut lower = marks;
     while lower > 0 {
         if list.len() >= most {
             return;
@@ -326,9 +397,66 @@ fn list_word_down(words: &[u64], pages: usize, word: usize, most: usize, list: &
     }
 }
 
+// Lists the greatest pages that are in neither of two sets, block by block from the last one down.
+fn list_outside_of(
+    counts: &[u32],
+    words: &[u64],
+    other_counts: &[u32],
+    others: &[u64],
+    except: Option<u32>,
+    pages: usize,
+    most: usize,
+    list: &mut Vec<u32>,
+)
+    requires counted { AreCounted (marked words.now pages) counts.now (count (marked words.now pages)) }
+    requires others_counted { AreCounted (marked others.now pages) other_counts.now (count (marked others.now pages)) }
+    requires apart { (page : ℕ) → contains (marked others.now pages) page ≡ true → contains (marked words.now pages) page ≡ false }
+    requires empty { list.old.items ≡ [] }
+    requires room { most ≤ vec_capacity list.old }
+    ensures listed { list.new.items ≡ take most (reverse (members (without (neither (marked words.now pages) (marked others.now pages)) except))) }
+    ensures room { vec_capacity list.new ≡ vec_capacity list.old }
+{
+    for block in (0..pages.div_ceil(BLOCK_PAGES)).rev() {
+        if list.len() >= most {
+            return;
+        }
+        let all = (pages - block * BLOCK_PAGES).min(BLOCK_PAGES) as u32;
+        if counts[block] + other_counts[block] < all {
+            list_block_outside(words, others, except, pages, block, most, list);
+        }
+    }
+}
+
+// Adds the pages of a block that are in neither of two sets to a list of the greatest ones, until it has `most`.
+fn list_block_outside(
+    words: &[u64],
+    others: &[u64],
+    except: Option<u32>,
+    pages: usize,
+    block: usize,
+    most: usize,
+    list: &mut Vec<u32>,
+)
+    requires fits { pages < 2 ^ 32 }
+    requires within { block * 2048 < pages }
+    requires before { list.old.items ≡ greatest_from (without (neither (marked words.now pages) (marked others.now pages)) except) ((block + 1) * 2048) most }
+    requires room { most ≤ vec_capacity list.old }
+    ensures after { list.new.items ≡ greatest_from (without (neither (marked words.now pages) (marked others.now pages)) except) (block * 2048) most }
+    ensures room { vec_capacity list.new ≡ vec_capacity list.old }
+{
+    let start = block * BLOCK_WORDS;
+    let end = pages.div_ceil(WORD_PAGES).min(start + BLOCK_WORDS);
+    for word in (start..end).rev() {
+        if list.len() >= most {
+            return;
+        }
+        let marks = marks_outside(words, others, except, pages, word);
+        list_marks_down(marks, word, most, list);
+    }
+}
+
 // Lists the least pages, block by block from the first one up.
 fn list_least_of(counts: &[u32], words: &[u64], pages: usize, most: usize, list: &mut Vec<u32>)
-    requires marks { pages ≤ length words.now * 64 }
     requires counted { AreCounted (marked words.now pages) counts.now (count (marked words.now pages)) }
     requires empty { list.old.items ≡ [] }
     requires room { most ≤ vec_capacity list.old }
@@ -347,7 +475,6 @@ fn list_least_of(counts: &[u32], words: &[u64], pages: usize, most: usize, list:
 
 // Adds the pages of a block to a list of the least ones, until it has `most`.
 fn list_block_up(words: &[u64], pages: usize, block: usize, most: usize, list: &mut Vec<u32>)
-    requires marks { pages ≤ length words.now * 64 }
     requires fits { pages < 2 ^ 32 }
     requires within { block * 2048 < pages }
     requires before { list.old.items ≡ least_below (marked words.now pages) (block * 2048) most }
@@ -367,7 +494,6 @@ fn list_block_up(words: &[u64], pages: usize, block: usize, most: usize, list: &
 
 // Adds the pages of a word to a list of the least ones, until it has `most`.
 fn list_word_up(words: &[u64], pages: usize, word: usize, most: usize, list: &mut Vec<u32>)
-    requires marks { pages ≤ length words.now * 64 }
     requires fits { pages < 2 ^ 32 }
     requires begins { word * 64 < pages }
     requires before { list.old.items ≡ least_below (marked words.now pages) (word * 64) most }

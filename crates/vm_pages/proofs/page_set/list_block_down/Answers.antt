@@ -1,4 +1,4 @@
-use Rattle.std.proofs.Common.{◌≡◌, ◌*◌, sym, ap, ◌∙◌, refl, arith}
+use Rattle.std.proofs.Common.{◌≡◌, ◌+◌, ◌-◌, ◌*◌, sym, ap, ◌∙◌, refl, arith}
 use Rattle.vm_pages.specs.Extremes.{greatest_from}
 use Rattle.vm_pages.specs.Words.{marked}
 use Rattle.vm_pages.proofs.ExtremeLemmas.{greatest_from-same, greatest_from-full}
@@ -21,3 +21,15 @@ pub returns-clause-after : goal.returns-clause-after
 returns-clause-after c =
     let start : c.loop-word.word * 64 ≡ c.args.block * 2048 = omega arith in
     c.loop-word.invariant.listed ∙ ap (λ page. greatest_from (marked c.args.words.now c.args.pages) page c.args.most) start
+
+pub loop-word-preserved : goal.loop-word-preserved
+loop-word-preserved c =
+    let invariant = c.loop-word.invariant in
+    let above : c.loop-word.word ≡ c.loop-word.word - 1 + 1 = omega arith in
+    record {
+      above = omega arith;
+      listed =
+          c.list_marks_down.ensures.after c.args.words.now c.args.pages (omega (arith, c.min-end.ensures, c.div_ceil.ensures)) c.marks_in.ensures
+          (invariant.listed ∙ ap (λ n. greatest_from (marked c.args.words.now c.args.pages) (n * 64) c.args.most) above);
+      room = c.list_marks_down.ensures.room ∙ invariant.room;
+    }

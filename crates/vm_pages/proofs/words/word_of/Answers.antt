@@ -6,7 +6,9 @@ use Rattle.vm_pages.proofs.words.word_of.Goals as goal
 
 pub loop-word-preserved : goal.loop-word-preserved
 loop-word-preserved c =
-    word_passed c.args.words.now c.args.pages c.loop-word.word c.loop-word.left _ (omega (arith, c.type_inv.words c.loop-word.word)) (omega (arith, c.loop-word-test.true, c.div_ceil-word-end.ensures)) c.if-left-count.false c.loop-word.invariant c.requires.there
+    let count = c.word_at-count.ensures in
+    rw count
+    (word_passed c.args.words.now c.args.pages c.loop-word.word c.loop-word.left _ (omega (arith, c.type_inv.words c.loop-word.word)) (omega (arith, c.loop-word-test.true, c.div_ceil-word-end.ensures)) (rw count at c.if-left-count.false) c.loop-word.invariant c.requires.there)
 
 pub unreachable-requires : goal.unreachable-requires
 unreachable-requires c =

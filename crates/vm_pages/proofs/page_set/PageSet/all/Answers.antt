@@ -9,10 +9,10 @@ pub invariant_of-result : goal.invariant_of-result
 invariant_of-result c = elim c.if-pages-ne0.branch [
   | then-pages-ne0 w ↦
       rw (c.in_ok-words.ensures.items, ap (λ v. v.items) w.counts-is, c.in_ok-counts.ensures.items)
-      (AreKept-all c.div_ceil.result c.args.size _ (omega (arith, c.div_ceil.ensures)) (AreCounted-all_rest c.args.size c.div_ceil-2.result (omega (arith, w.if-pages-ne0.true)) (omega (arith, c.div_ceil-2.ensures, w.if-pages-ne0.true)) c.ranges.size.fits))
+      (AreKept-all c.div_ceil.result _ c.args.size _ (omega (arith, c.div_ceil.ensures)) c.in_ok-words.ensures.room (AreCounted-all_rest c.args.size c.div_ceil-2.result (omega (arith, w.if-pages-ne0.true)) (omega (arith, c.div_ceil-2.ensures, w.if-pages-ne0.true)) c.ranges.size.fits))
   | else-pages-ne0 w ↦
       rw (c.in_ok-words.ensures.items, ap (λ v. v.items) w.counts-is, c.in_ok-counts.ensures.items)
-      (AreKept-all c.div_ceil.result c.args.size _ (omega (arith, c.div_ceil.ensures)) (AreCounted-all_filled c.args.size c.div_ceil-2.result w.if-pages-ne0.false (omega (arith, c.div_ceil-2.ensures, w.if-pages-ne0.false)) c.ranges.size.fits))
+      (AreKept-all c.div_ceil.result _ c.args.size _ (omega (arith, c.div_ceil.ensures)) c.in_ok-words.ensures.room (AreCounted-all_filled c.args.size c.div_ceil-2.result w.if-pages-ne0.false (omega (arith, c.div_ceil-2.ensures, w.if-pages-ne0.false)) c.ranges.size.fits))
 ]
 
 pub returns-clause-set : goal.returns-clause-set

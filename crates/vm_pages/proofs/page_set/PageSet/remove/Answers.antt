@@ -2,11 +2,8 @@ use Rattle.std.proofs.Common.{refl, sym, ◌∙◌, arith}
 use Rattle.vm_pages.specs.Words.{marked}
 use Rattle.vm_pages.proofs.BlockLemmas.{removed}
 use Rattle.vm_pages.proofs.PageSets.{count-positive, remove-absent}
-use Rattle.vm_pages.proofs.WordLemmas.{has_word, read-marked, written_back, AreKept-after}
+use Rattle.vm_pages.proofs.WordLemmas.{read-marked, AreKept-after}
 use Rattle.vm_pages.proofs.page_set.PageSet.remove.Goals as goal
-
-pub is_marked-requires : goal.is_marked-requires
-is_marked-requires c = rw c.deref.ensures.value (has_word _ _ _ c.self.invariant.marks (rw (← c.self.view_is) at c.requires))
 
 pub returns-then-not-is_marked-clause-removed : goal.returns-then-not-is_marked-clause-removed
 returns-then-not-is_marked-clause-removed c =
@@ -17,9 +14,6 @@ pub returns-then-not-is_marked-clause-after : goal.returns-then-not-is_marked-cl
 returns-then-not-is_marked-clause-after c =
     let absent = read-marked _ _ _ _ (rw (← c.self.view_is) at c.requires) (rw c.deref.ensures.value at c.is_marked.ensures) ∙ c.if-not-is_marked.true in
     rw (← c.self.view_is) (sym (remove-absent _ _ absent))
-
-pub unmark-requires : goal.unmark-requires
-unmark-requires c = rw c.deref_mut.ensures.value (has_word _ _ _ c.self.invariant.marks (rw (← c.self.view_is) at c.requires))
 
 pub overflow_sub-index_mut : goal.overflow_sub-index_mut
 overflow_sub-index_mut c =
@@ -35,10 +29,7 @@ pub invariant_of-self : goal.invariant_of-self
 invariant_of-self c =
     let there = read-marked _ _ _ _ (rw (← c.self.view_is) at c.requires) (rw c.deref.ensures.value at c.is_marked.ensures) ∙ c.if-not-is_marked.false in
     let counted = (removed _ _ _ _ _ c.self.invariant.counted (rw (← c.self.view_is) at c.requires) there c.index_mut.ensures.value).counted in
-    let same = rw c.deref_mut.ensures.value at c.unmark.ensures.length in
-    let after = rw c.deref_mut.ensures.value at (c.unmark.ensures.after c.self.inside.size) in
-    rw (written_back c.self.inside.words.len c.unmark.new.words c.self.inside.words.items (omega (arith, same, c.self.inside.words.ok)))
-    (AreKept-after _ _ _ _ _ _ c.self.invariant.marks same after counted)
+    AreKept-after c.unmark.new.words.items _ _ _ _ _ _ c.self.invariant.marks (omega (arith, c.unmark.ensures.room)) (c.unmark.ensures.after c.self.inside.size) counted
 
 pub returns-clause-removed : goal.returns-clause-removed
 returns-clause-removed c =

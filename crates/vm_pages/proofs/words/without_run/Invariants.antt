@@ -1,7 +1,7 @@
 use Rattle.std.proofs.Common.{◌≡◌, ◌≤◌, ◌/◌, take}
 use Rattle.std.specs.Prelude.{All}
 use Rattle.vm_pages.specs.Runs.{bits_lost, without_bits}
-use Rattle.vm_pages.proofs.words.unmark_run.Given as goal
+use Rattle.vm_pages.proofs.words.without_run.Given as goal
 
 abbrev pub invariant-loop-run : goal.invariant-loop-run
 invariant-loop-run l = record {

@@ -1,8 +1,0 @@
-use Rattle.std.proofs.Common.{◌≡◌, ◌-◌, ◌*◌, ◌%◌, ◌^◌, get_or, min, ap, ◌∙◌, arith}
-use Rattle.vm_pages.proofs.BitLemmas.{low_mask}
-use Rattle.vm_pages.proofs.words.marks_in.Goals as goal
-
-pub returns-then-left-lt-WORD_PAGES : goal.returns-then-left-lt-WORD_PAGES
-returns-then-left-lt-WORD_PAGES c =
-    let few : c.args.pages - c.args.word * 64 ≡ min 64 (c.args.pages - c.args.word * 64) = omega arith in
-    low_mask (get_or c.args.words.now c.args.word 0) (c.args.pages - c.args.word * 64) (omega arith) ∙ ap (λ n. get_or c.args.words.now c.args.word 0 % 2 ^ n) few
