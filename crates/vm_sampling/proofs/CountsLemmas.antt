@@ -1,18 +1,40 @@
 -- Counts of draws, as pages are drawn and touched.
-use Rattle.std.proofs.Common.{◌≡◌, ℕ, ◌+◌, ◌-◌, ◌<◌, ◌≤◌, true, false, Bool, List, [], ◌∷◌, ◌++◌, length, get_or, refl, sym, ap, ◌∙◌, arith}
+use Rattle.std.proofs.Common.{◌≡◌, ◌≢◌, ℕ, zero, suc, ◌==◌, inl, inr, ◌+◌, ◌-◌, ◌<◌, ◌≤◌, true, false, Bool, List, [], ◌∷◌, ◌++◌, length, get_or, refl, sym, ap, ◌∙◌, arith}
 use Rattle.std.specs.Prelude.{count_by, replicate}
 use Rattle.std.proofs.Math.ListN.{set, length-set}
-use Rattle.std.proofs.lemmas.List.{length-replicate}
+use Rattle.std.proofs.lemmas.List.{length-replicate, get_or-replicate, get_or-set_other, get_or-set_same}
+use Rattle.std.proofs.lemmas.List.Sums.{count_by-le-length}
+use Rattle.std.proofs.lemmas.Bool.{cases_eq}
 use Rattle.std.proofs.lemmas.Grind.{common_steps}
 use Rattle.vm_pages.proofs.PageSets.{contains-no_pages}
-use Rattle.vm_sampling.specs.Counts.{AreCounts, draws_of}
+use Rattle.vm_pages.specs.PageTable.{Items, first_items, with_item}
+use Rattle.vm_sampling.specs.Counts.{AreCounts, HasCounts, draws_of}
 use Rattle.vm_sampling.specs.Drawn.{Drawn}
 use Rattle.vm_sampling.specs.SamplerFields.{AreSamples}
 use Rattle.vm_pages.specs.Pages.{no_pages, contains, insert}
 
--- nothing is drawn yet
-pub AreCounts-none : (size : ℕ) → AreCounts [] (replicate size 0)
-AreCounts-none size = λ k h. grind (arith, common_steps)
+-- draws of page 0 alone
+draws_of-firsts : (n : ℕ) → draws_of (replicate n 0) 0 ≡ n
+draws_of-firsts zero = refl
+draws_of-firsts (suc n) = grind (arith, common_steps, draws_of-firsts n)
+
+draws_of-no_firsts : (n page : ℕ) → 0 ≢ page → draws_of (replicate n 0) page ≡ 0
+draws_of-no_firsts zero page other = refl
+draws_of-no_firsts (suc n) page other = grind (arith, common_steps, draws_of-no_firsts n page other)
+
+pub HasCounts-firsts : (n size : ℕ) → 0 < size → HasCounts (replicate n 0) (with_item (first_items 0 size) 0 n)
+HasCounts-firsts n size some = record {
+  from_zero = refl;
+  each = λ page there. elim (cases_eq 0 page) [
+    | inl same ↦
+        rw (← same)
+        (get_or-set_same (replicate size 0) 0 n 0 (omega (arith, some, length-replicate {A = ℕ} size 0)) ∙ sym (draws_of-firsts n))
+    | inr other ↦
+        get_or-set_other (replicate size 0) 0 page n 0 (λ same. other (sym same))
+        ∙ get_or-replicate size page 0 0 (omega (arith, there, length-set {A = ℕ} (replicate size 0) 0 n, length-replicate {A = ℕ} size 0))
+        ∙ sym (draws_of-no_firsts n page other)
+  ];
+}
 
 -- one more page is drawn
 pub AreCounts-push : (drawn counts : List ℕ) (page : ℕ) → page < length counts → AreCounts drawn counts
@@ -29,6 +51,31 @@ counted_once page drawn counts within are =
 pub AreCounts-pop : (page : ℕ) (drawn counts : List ℕ) → page < length counts → AreCounts (page ∷ drawn) counts
     → AreCounts drawn (set counts page (get_or counts page 0 - 1))
 AreCounts-pop page drawn counts within are = λ k h. grind (arith, common_steps, are k)
+
+-- the same of a table
+pub HasCounts-push : (drawn : List ℕ) (table : Items ℕ) (page : ℕ) → page < length table.list → HasCounts drawn table
+    → HasCounts (drawn ++ page ∷ []) (with_item table page (get_or table.list page table.first + 1))
+HasCounts-push drawn table page within has = record {
+  from_zero = has.from_zero;
+  each = rw has.from_zero (AreCounts-push drawn table.list page within has.each);
+}
+
+pub HasCounts-pop : (page : ℕ) (drawn : List ℕ) (table : Items ℕ) → page < length table.list → HasCounts (page ∷ drawn) table
+    → HasCounts drawn (with_item table page (get_or table.list page table.first - 1))
+HasCounts-pop page drawn table within has = record {
+  from_zero = has.from_zero;
+  each = rw has.from_zero (AreCounts-pop page drawn table.list within has.each);
+}
+
+pub has_count : (page : ℕ) (drawn : List ℕ) (table : Items ℕ) → page < length table.list → HasCounts (page ∷ drawn) table → 0 < get_or table.list page table.first
+has_count page drawn table within has = rw has.from_zero (counted_once page drawn table.list within has.each)
+
+pub count_is : (page : ℕ) (drawn : List ℕ) (table : Items ℕ) → page < length table.list → HasCounts drawn table → get_or table.list page table.first ≡ draws_of drawn page
+count_is page drawn table within has = rw has.from_zero (has.each page within)
+
+-- no count is greater than the number of the draws
+pub count_few : (page : ℕ) (drawn : List ℕ) (table : Items ℕ) → page < length table.list → HasCounts drawn table → get_or table.list page table.first ≤ length drawn
+count_few page drawn table within has = omega (arith, count_is page drawn table within has, count_by-le-length (λ p. p == page) drawn)
 
 -- a touch adds to the hits what the page's count is
 pub count_by-contains-insert : (drawn : List ℕ) (touched : List Bool) (page : ℕ) → page < length touched → contains touched page ≡ false

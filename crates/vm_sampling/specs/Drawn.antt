@@ -1,5 +1,5 @@
 -- The pages drawn for a period.
-use Rattle.std.specs.Prelude.{ℕ, ◌≡◌, ◌<◌, List, Option, Some, None, length}
+use Rattle.std.specs.Prelude.{ℕ, List, Option, Some, None, length}
 use Rattle.rand_pcg.specs.Lcg.{Lcg}
 use Rattle.vm_sampling.specs.Words.{draws}
 
@@ -14,8 +14,3 @@ pub record Drawn : Type 0 where
 abbrev pub pages_drawn : Option Lcg → List ℕ → ℕ → List ℕ
 pages_drawn None drawn size = drawn
 pages_drawn (Some g) drawn size = draws (length drawn) size g
-
--- each page has a count, once draws were made; until then they are due
-pub record AreMade (due : Option Lcg) (counts : List ℕ) (size : ℕ) : Type 0 where
-  pub whole : 0 < length counts → length counts ≡ size
-  pub made : due ≡ None → length counts ≡ size

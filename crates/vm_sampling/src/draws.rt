@@ -1,22 +1,22 @@
-ghost use Rattle.std.specs.Prelude.{◌≡◌, ◌<◌, ◌≤◌, [], None, All, IfOk, OnErr, length, vec_capacity, vec_len};
-ghost use Rattle.vm_sampling.specs.Counts.{AreCounts, draws_of};
-ghost use Rattle.vm_sampling.specs.Drawn.{pages_drawn, AreMade};
+ghost use Rattle.std.specs.Prelude.{◌≡◌, ◌<◌, ◌≤◌, [], All, IfOk, OnErr, length};
+ghost use Rattle.vm_sampling.specs.Counts.{HasCounts, draws_of};
+ghost use Rattle.vm_sampling.specs.Drawn.{pages_drawn};
 ghost use Rattle.vm_sampling.specs.Words.{draws, words_after};
 
 use crate::Words;
 use std::alloc::{AllocError, Global};
 use std::marker::Model;
+use vm_pages::PageTable;
 
 // The pages that are drawn for a period, with replacement.
 //
 // A new period only sets the words of its draws aside. The draws are made when a page is first asked for, so a period in which no
-// page is touched costs none, and draws that no page was ever asked of have no counts.
+// page is touched costs none.
 #[derive(Debug, Drop)]
 pub(crate) struct Draws {
-    size: u32,
     drawn: Vec<u32>,
-    // How many of the draws that were made gave each page, once draws were made.
-    draws_of: Vec<u16>,
+    // How many of the draws that were made gave each page. Before any were, they count as draws of page 0.
+    draws_of: PageTable<u16>,
     // The words of the draws that are still to be made, in place of those that were.
     due: Option<Words>,
 }
@@ -48,10 +48,10 @@ impl Draws {
         ensures err { OnErr result (words.new ≡ words.old) }
     {
         let drawn = vec![in alloc; 0u32; n as usize]?;
-        let draws_of = Vec::with_capacity(alloc, size as usize)?;
+        let mut draws_of = PageTable::new(alloc, size, 0)?;
+        draws_of.set(0, n as u16);
         let due = Some(words.set_aside(u64::from(n)));
         Ok(Draws {
-            size,
             drawn,
             draws_of,
             due,
@@ -80,76 +80,57 @@ impl Draws {
         ensures same { self.new ≡ self.old }
     {
         let due = self.due.take();
-        make_draws(due, self.size, &mut self.drawn, &mut self.draws_of);
-        u32::from(self.draws_of[page as usize])
+        make_draws(due, &mut self.drawn, &mut self.draws_of);
+        u32::from(self.draws_of.get(page))
     }
 }
 
 // Makes the draws that are due, if there are any.
-fn make_draws(due: Option<Words>, size: u32, drawn: &mut [u32], draws_of: &mut Vec<u16>)
+fn make_draws(due: Option<Words>, drawn: &mut [u32], draws_of: &mut PageTable<u16>)
     requires few_draws { length drawn.old ≤ 1000 }
-    requires pages_in_range { (1 ≤ size) × (size ≤ 262144) }
-    requires room { size ≤ vec_capacity draws_of.old }
-    requires pages { All (λ page. page < size) drawn.old }
-    requires counted { AreCounts drawn.old draws_of.old.items }
-    requires made { AreMade due draws_of.old.items size }
-    ensures drawn { drawn.new ≡ pages_drawn due drawn.old size }
-    ensures pages { All (λ page. page < size) drawn.new }
-    ensures counted { AreCounts drawn.new draws_of.new.items }
-    ensures all { vec_len draws_of.new ≡ size }
-    ensures room { size ≤ vec_capacity draws_of.new }
+    requires some_pages { 0 < length draws_of.old.list }
+    requires few_pages { length draws_of.old.list ≤ 262144 }
+    requires pages { All (λ page. page < length draws_of.old.list) drawn.old }
+    requires counted { HasCounts drawn.old draws_of.old }
+    ensures drawn { drawn.new ≡ pages_drawn due drawn.old (length draws_of.old.list) }
+    ensures pages { All (λ page. page < length draws_of.old.list) drawn.new }
+    ensures counted { HasCounts drawn.new draws_of.new }
+    ensures all { length draws_of.new.list ≡ length draws_of.old.list }
 {
     if let Some(mut words) = due {
-        begin_counts(size, drawn, draws_of);
+        clear_counts(drawn, draws_of);
         redraw(drawn, draws_of, &mut words);
     }
 }
 
-// Leaves no draw in the counts, of which there is one for each page then.
-fn begin_counts(size: u32, drawn: &[u32], draws_of: &mut Vec<u16>)
-    requires room { size ≤ vec_capacity draws_of.old }
-    requires pages { All (λ page. page < size) drawn.now }
-    requires counted { AreCounts drawn.now draws_of.old.items }
-    requires whole { 0 < vec_len draws_of.old → vec_len draws_of.old ≡ size }
-    ensures counted { AreCounts [] draws_of.new.items }
-    ensures all { vec_len draws_of.new ≡ size }
-    ensures room { size ≤ vec_capacity draws_of.new }
-{
-    if draws_of.is_empty() {
-        draws_of.resize(size as usize, 0).unwrap();
-    } else {
-        clear_counts(drawn, draws_of);
-    }
-}
-
 // Takes the draws out of the counts, one by one.
-fn clear_counts(drawn: &[u32], draws_of: &mut [u16])
-    requires pages { All (λ page. page < length draws_of.old) drawn.now }
-    requires counted { AreCounts drawn.now draws_of.old }
-    ensures counted { AreCounts [] draws_of.new }
-    ensures all { length draws_of.new ≡ length draws_of.old }
+fn clear_counts(drawn: &[u32], draws_of: &mut PageTable<u16>)
+    requires pages { All (λ page. page < length draws_of.old.list) drawn.now }
+    requires counted { HasCounts drawn.now draws_of.old }
+    ensures counted { HasCounts [] draws_of.new }
+    ensures all { length draws_of.new.list ≡ length draws_of.old.list }
 {
     for &page in drawn {
-        draws_of[page as usize] -= 1;
+        draws_of.set(page, draws_of.get(page) - 1);
     }
 }
 
 // Draws each of the pages anew, and counts how many of the draws give each page.
-fn redraw(drawn: &mut [u32], draws_of: &mut [u16], words: &mut Words)
+fn redraw(drawn: &mut [u32], draws_of: &mut PageTable<u16>, words: &mut Words)
     requires few_draws { length drawn.old ≤ 1000 }
-    requires some_pages { 0 < length draws_of.old }
-    requires few_pages { length draws_of.old ≤ 262144 }
-    requires cleared { AreCounts [] draws_of.old }
-    ensures drawn { drawn.new ≡ draws (length drawn.old) (length draws_of.old) words.old }
-    ensures pages { All (λ page. page < length draws_of.old) drawn.new }
-    ensures counted { AreCounts drawn.new draws_of.new }
-    ensures all { length draws_of.new ≡ length draws_of.old }
+    requires some_pages { 0 < length draws_of.old.list }
+    requires few_pages { length draws_of.old.list ≤ 262144 }
+    requires cleared { HasCounts [] draws_of.old }
+    ensures drawn { drawn.new ≡ draws (length drawn.old) (length draws_of.old.list) words.old }
+    ensures pages { All (λ page. page < length draws_of.old.list) drawn.new }
+    ensures counted { HasCounts drawn.new draws_of.new }
+    ensures all { length draws_of.new.list ≡ length draws_of.old.list }
     ensures words { words.new ≡ words_after (length drawn.old) words.old }
 {
-    let size = draws_of.len() as u32;
+    let size = draws_of.len();
     for place in drawn.iter_mut() {
         let page = words.pick(size);
         *place = page;
-        draws_of[page as usize] += 1;
+        draws_of.set(page, draws_of.get(page) + 1);
     }
 }

@@ -1,4 +1,4 @@
-ghost use Rattle.std.specs.Prelude.{◌≡◌, ◌+◌, ◌-◌, ◌*◌, ◌/◌, ◌<◌, ◌≤◌, ◌++◌, IfOk, OnErr, length, replicate, vec_capacity, vec_len};
+ghost use Rattle.std.specs.Prelude.{◌≡◌, ◌*◌, ◌/◌, ◌<◌, ◌≤◌, IfOk, OnErr, length};
 ghost use Rattle.vm_pages.specs.Pages.{no_pages};
 ghost use Rattle.vm_sampling.specs.Words.{words_after};
 ghost use Rattle.vm_sampling.specs.Marks.{marked, AreMarksUpTo};
@@ -9,6 +9,7 @@ use crate::Words;
 use crate::draws::Draws;
 use std::alloc::{AllocError, Global};
 use std::marker::Model;
+use vm_pages::PageTable;
 
 /// The whole of something, in fixed point.
 const WHOLE: u32 = 65536;
@@ -19,16 +20,16 @@ const WHOLE: u32 = 65536;
 ///
 /// A step, a touch and [`Sampler::active`] take constant time, and so do idle steps at once, but for a logarithm of their number.
 /// The first touch of a period alone takes time for the period's draws, which are left until then. The touched pages are marked
-/// with the number of the period, so none has to be cleared but once in 65535 periods, when the numbers begin anew. The first touch
-/// of all takes time for the guest's pages, and one above all that were touched before for the pages between.
+/// with the number of the period, so none has to be cleared but once in 65535 periods, when the numbers begin anew.
 ///
-/// A page takes four bytes, of which a system that gives out memory on first use gives none before a page is touched, and
-/// then two for each page of the guest and two for each up to the greatest that was touched.
+/// A page takes four bytes, which are asked for at the start and written in blocks of 256 pages: two bytes a page of a block in which
+/// a page is touched, and two of one in which a page is drawn. So a system that gives out memory on first use gives it for those
+/// blocks alone, and a first touch or draw in a block takes time for the block.
 #[derive(Debug, Drop)]
 pub struct Sampler {
     draws: Draws,
-    // The number of the period in which each page was touched last, 0 for none; up to the greatest page that was ever touched.
-    touched_in: Vec<u16>,
+    // The number of the period in which each page was touched last, 0 for none.
+    touched_in: PageTable<u16>,
     // The number of this period. Idle periods that end at once have none.
     number: u16,
     // How many of the draws gave a page that was touched in this period.
@@ -70,7 +71,7 @@ impl Sampler {
         ensures words { IfOk result (λ _. words.new ≡ words_after n words.old) }
         ensures err { OnErr result (words.new ≡ words.old) }
     {
-        let touched_in = Vec::with_capacity(alloc, size as usize)?;
+        let touched_in = PageTable::new(alloc, size, 0)?;
         Ok(Sampler {
             draws: Draws::new(alloc, n, size, words)?,
             touched_in,
@@ -88,10 +89,8 @@ impl Sampler {
         requires { page < self.old.size }
         ensures { self.new ≡ with_touch self.old page }
     {
-        let place = page as usize;
-        reach(&mut self.touched_in, place);
-        if self.touched_in[place] != self.number {
-            self.touched_in[place] = self.number;
+        if self.touched_in.get(page) != self.number {
+            self.touched_in.set(page, self.number);
             self.hits += self.draws.count_of(page);
         }
     }
@@ -152,17 +151,6 @@ impl Sampler {
     }
 }
 
-// Lets the marks reach a page, in the room that was reserved. A mark that comes is of no period.
-fn reach(marks: &mut Vec<u16>, page: usize)
-    requires { page < vec_capacity marks.old }
-    ensures marks { marks.new.items ≡ marks.old.items ++ replicate (page + 1 - vec_len marks.old) 0 }
-    ensures room { vec_capacity marks.old ≤ vec_capacity marks.new }
-{
-    if marks.len() <= page {
-        marks.resize(page + 1, 0).unwrap();
-    }
-}
-
 // So many hits as a fraction of all draws. Mostly there are none, and then nothing is divided.
 fn fraction(hits: u32, draws: usize) -> u32
     requires some { 0 < draws }
@@ -210,14 +198,16 @@ fn fast_after(fast: u32, idle: u32) -> u32
 }
 
 // The number of the next period, which no mark has. The marks are swept where the numbers begin anew, once in 65535 periods.
-fn next_number(number: u16, marks: &mut [u16]) -> u16
-    requires { AreMarksUpTo number marks.old }
-    ensures some { 0 < result }
-    ensures empty { marked result marks.new ≡ no_pages (length marks.old) }
-    ensures marks { AreMarksUpTo result marks.new }
+fn next_number(number: u16, marks: &mut PageTable<u16>) -> u16
+    requires from_zero { marks.old.first ≡ 0 }
+    requires marks { AreMarksUpTo number marks.old.list }
+    ensures empty { marked result marks.new.list ≡ no_pages (length marks.old.list) }
+    ensures all { length marks.new.list ≡ length marks.old.list }
+    ensures from_zero { marks.new.first ≡ 0 }
+    ensures marks { AreMarksUpTo result marks.new.list }
 {
     if number == u16::MAX {
-        marks.fill(0);
+        marks.clear();
         return 1;
     }
     number + 1
