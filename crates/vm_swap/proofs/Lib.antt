@@ -1,4 +1,5 @@
 pub mod Bounded
+pub mod Marks
 pub mod Kept
 pub mod Slots
 pub mod Absent

@@ -194,7 +194,7 @@ replaces xs i d h = record {
   kept = λ j ne l. slice_get-take _ _ j (omega arith) ∙ slice_get-set_other xs i j _ ne;
 }
 
-get_or-map : {X Y : Type 0} (f : X → Y) (xs : List X) (n : ℕ) (d : X) → get_or (map f xs) n (f d) ≡ f (get_or xs n d)
+pub get_or-map : {X Y : Type 0} (f : X → Y) (xs : List X) (n : ℕ) (d : X) → get_or (map f xs) n (f d) ≡ f (get_or xs n d)
 get_or-map f [] n d = refl
 get_or-map f (x ∷ xs) zero d = refl
 get_or-map f (x ∷ xs) (suc n) d = get_or-map f xs n d

@@ -17,11 +17,9 @@ pub record Indexes (index : List (Option ℕ)) (pages : List ℕ) : Type 0 where
   pub listed : (page slot : ℕ) → get_or index page None ≡ Some slot → slice_get pages slot ≡ Some page
   pub indexed : (page slot : ℕ) → slice_get pages slot ≡ Some page → get_or index page None ≡ Some slot
 
--- the pages have slots that the index finds, and the index has `room` for each page without more memory:
--- no page is numbered 262144 or above
-pub record IsKept {V : Type 0} (entries : List (ℕ × V)) (index : List (Option ℕ)) (room : ℕ) : Type 0 where
+-- the pages have slots that the index finds, and the index has a place for each page that a guest can have
+pub record IsKept {V : Type 0} (entries : List (ℕ × V)) (index : List (Option ℕ)) : Type 0 where
   pub indexes : Indexes index (pages_of entries)
   pub counted : len (from_entries {R = nat_cmp} entries) ≡ length entries
   pub few : length entries ≤ 262144
-  pub index_within : length index ≤ 262144
-  pub index_room : 262144 ≤ room
+  pub places : length index ≡ 262144

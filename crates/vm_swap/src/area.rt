@@ -5,7 +5,8 @@ ghost use Rattle.vm_patches.specs.Patches.{patched};
 ghost use Rattle.vm_swap.specs.Area.{zero_bytes};
 ghost use Rattle.vm_swap.specs.Merged.{merged};
 
-use crate::table::{PAGE_LIMIT, Table, roomy, trade_bytes};
+use crate::index::PAGE_LIMIT;
+use crate::table::{Table, roomy, trade_bytes};
 use std::alloc::{AllocError, Global};
 use std::marker::Model;
 use vm_frames::{Frame, PAGE_BYTES};
@@ -20,8 +21,10 @@ const ZEROS: [u8; PAGE_BYTES] = [0; PAGE_BYTES];
 ///
 /// All room is reserved when the area is made or grows, at most for the [`PAGE_LIMIT`] pages that a guest can
 /// have, so no other call takes memory. A slot is written first when a page needs it: a system that gives out
-/// memory on first use gives none for slots that were never needed. A page that goes out of its frame as a log stays a log
-/// until it comes in, so that `save`, `load` and `trade` touch no page of memory for it.
+/// memory on first use gives none for slots that were never needed. Nor for most of the numbers that find the slots: they lie in blocks
+/// of 256 pages, 1024 bytes each, and a block is written when a page of it goes out first, one block where that is as a log and one
+/// where it is whole. A page that goes out of its frame as a log stays a log until it comes in, so that `save`, `load` and `trade`
+/// touch no page of memory for it.
 #[derive(Drop)]
 pub struct SwapArea {
     capacity: u32,
@@ -182,6 +185,15 @@ impl SwapArea {
         let was_whole = self.whole.discard(page);
         let was_few = self.few.discard(page);
         was_whole || was_few
+    }
+
+    /// Gives up the slots of all pages, for a guest that begins anew in the same room. Its time goes with the pages that are out, and
+    /// not with those of the guest.
+    pub fn empty(&mut self)
+        ensures { self.new ≡ record self.old { pages = map.empty } }
+    {
+        self.whole.empty();
+        self.few.empty();
     }
 
     // Swaps out a page as all its bytes.

@@ -1,15 +1,13 @@
-ghost use Rattle.std.specs.Prelude.{◌≡◌, ℕ, true, ◌+◌, ◌<◌, ◌≤◌, ◌==◌, if◌then◌else◌, min, Some, None, IfSome, IfOk, IfErr, OnOk, OnErr, get_or, option_copied, vec_len, vec_capacity};
+ghost use Rattle.std.specs.Prelude.{◌≡◌, ℕ, true, ◌+◌, ◌<◌, ◌≤◌, min, Some, None, IfSome, IfOk, IfErr, OnOk, OnErr, option_copied};
 ghost use Rattle.std.specs.Bool.{OnTrue, OnFalse};
 ghost use Rattle.std.specs.FinMap as map;
 
+use crate::index::{Index, PAGE_LIMIT};
 use std::alloc::{AllocError, Global};
 use std::marker::Model;
 use std::mem;
 use vm_frames::PAGE_BYTES;
 use vm_patches::PatchedFrame;
-
-/// The pages of a guest are numbered below this, so an area never holds more of them.
-pub const PAGE_LIMIT: u32 = 262144;
 
 // The place of one value.
 #[derive(Drop)]
@@ -18,13 +16,12 @@ struct Slot<V> {
     value: V,
 }
 
-// A value for each of some pages, found by one read of the index. Only `new`, `reserve` and `reserve_roomy` take memory.
+// A value for each of some pages, found by one look into the index. Only `new`, `reserve` and `reserve_roomy` take memory.
 #[derive(Drop)]
 pub(crate) struct Table<V> {
     // In no order.
     slots: Vec<Slot<V>>,
-    // The slot of each page, up to the greatest page that ever had one.
-    index: Vec<Option<u32>>,
+    index: Index,
 }
 
 impl<V> Model for Table<V> {
@@ -40,7 +37,7 @@ impl<V> Model for Table<V> {
 
     ghost view = { λ t. record { values = map.from_entries (entries_of t.slots.items); room = vec_capacity t.slots } };
 
-    ghost invariant = { λ t. IsKept (entries_of t.slots.items) t.index.items (vec_capacity t.index) };
+    ghost invariant = { λ t. IsKept (entries_of t.slots.items) t.index };
 }
 
 impl<V: Drop> Table<V> {
@@ -51,7 +48,7 @@ impl<V: Drop> Table<V> {
     {
         Ok(Table {
             slots: Vec::with_capacity(alloc, room)?,
-            index: Vec::with_capacity(alloc, PAGE_LIMIT as usize)?,
+            index: Index::new(alloc)?,
         })
     }
 
@@ -125,7 +122,7 @@ impl<V: Drop> Table<V> {
     pub(crate) fn get(&self, page: u32) -> Option<&V>
         ensures { option_copied result ≡ map.get self.now.values page }
     {
-        match slot_of(&self.index, page) {
+        match self.index.find(page) {
             Some(slot) => Some(&self.slots[slot].value),
             None => None,
         }
@@ -137,7 +134,7 @@ impl<V: Drop> Table<V> {
         ensures written { OnTrue result (self.new ≡ record self.old { values = map.insert self.old.values page value }) }
         ensures absent { OnFalse result (self.new ≡ self.old) }
     {
-        match slot_of(&self.index, page) {
+        match self.index.find(page) {
             Some(slot) => {
                 self.slots[slot] = Slot { page, value };
                 true
@@ -155,7 +152,7 @@ impl<V: Drop> Table<V> {
     {
         let slot = self.slots.len() as u32;
         self.slots.push_reserved(Slot { page, value });
-        note_slot(&mut self.index, page, slot);
+        self.index.note(page, slot);
     }
 
     // Gives the slot of a page to another one that has none, with that one's value, and answers the value that was there. Where the page
@@ -169,12 +166,12 @@ impl<V: Drop> Table<V> {
         ensures back { IfErr result (λ back. back ≡ value) }
         ensures same { OnErr result (self.new ≡ self.old) }
     {
-        match slot_of(&self.index, page) {
+        match self.index.find(page) {
             Some(slot) => {
                 let given = Slot { page: other, value };
                 let Slot { page: _, value } = mem::replace(&mut self.slots[slot], given);
-                self.index[page as usize] = None;
-                note_slot(&mut self.index, other, slot as u32);
+                self.index.forget(page);
+                self.index.note(other, slot as u32);
                 Ok(value)
             }
             None => Err(value),
@@ -206,17 +203,25 @@ impl<V: Drop> Table<V> {
         ensures taken { result ≡ map.get self.old.values page }
         ensures removed { self.new ≡ record self.old { values = map.remove self.old.values page } }
     {
-        match slot_of(&self.index, page) {
+        match self.index.find(page) {
             Some(slot) => {
                 // The last slot takes the place of the page's, which may be the last itself.
                 let moved = self.slots[self.slots.len() - 1].page;
                 let Slot { page: _, value } = self.slots.swap_remove(slot);
-                self.index[moved as usize] = Some(slot as u32);
-                self.index[page as usize] = None;
+                self.index.note(moved, slot as u32);
+                self.index.forget(page);
                 Some(value)
             }
             None => None,
         }
+    }
+
+    // Lets the values of all pages go.
+    pub(crate) fn empty(&mut self)
+        ensures { self.new ≡ record self.old { values = map.empty } }
+    {
+        self.slots.clear();
+        self.index.clear();
     }
 }
 
@@ -244,11 +249,11 @@ pub(crate) fn trade_bytes(
     ensures same { OnFalse result (table.new ≡ table.old) }
     ensures same_frame { OnFalse result (frame.new ≡ frame.old) }
 {
-    match slot_of(&table.index, page) {
+    match table.index.find(page) {
         Some(slot) => {
             rewrite(&mut table.slots[slot], other, frame);
-            table.index[page as usize] = None;
-            note_slot(&mut table.index, other, slot as u32);
+            table.index.forget(page);
+            table.index.note(other, slot as u32);
             true
         }
         None => false,
@@ -262,30 +267,4 @@ fn rewrite(slot: &mut Slot<[u8; PAGE_BYTES]>, page: u32, frame: &mut PatchedFram
 {
     slot.page = page;
     frame.exchange(&mut slot.value);
-}
-
-// The slot in which the index finds a page.
-fn slot_of(index: &[Option<u32>], page: u32) -> Option<usize>
-    ensures { result ≡ get_or index.now page None }
-{
-    match index.get(page as usize) {
-        Some(Some(slot)) => Some(*slot as usize),
-        _ => None,
-    }
-}
-
-// Lets the index find a page in a slot, in the room that was reserved.
-fn note_slot(index: &mut Vec<Option<u32>>, page: u32, slot: u32)
-    requires in_range { page < PAGE_LIMIT }
-    requires room { PAGE_LIMIT ≤ vec_capacity index.old }
-    requires within { vec_len index.old ≤ PAGE_LIMIT }
-    ensures noted { (q : ℕ) → get_or index.new.items q None ≡ (if q == page then Some slot else get_or index.old.items q None) }
-    ensures room { PAGE_LIMIT ≤ vec_capacity index.new }
-    ensures within { vec_len index.new ≤ PAGE_LIMIT }
-{
-    let at = page as usize;
-    if index.len() <= at {
-        index.resize(at + 1, None).unwrap();
-    }
-    index[at] = Some(slot);
 }

@@ -1,20 +1,28 @@
-use Rattle.std.proofs.Common.{◌==◌, cond, Some, None, get_or, ap, ◌∙◌, arith}
+use Rattle.std.proofs.Common.{◌<◌, ◌==◌, cond, length, Some, None, get_or, ap, ◌∙◌, arith}
 use Rattle.vm_swap.specs.Slots.{entries_of}
-use Rattle.vm_swap.proofs.Kept.{free_slot, length-entries_of, pushed_values, kept_pushed}
+use Rattle.vm_swap.proofs.Kept.{free_slot, length-entries_of, pushed_values, kept_pushed, index_noted, length-write}
 use Rattle.vm_swap.proofs.table.Table.insert.Goals as goal
 
 pub push_reserved-requires : goal.push_reserved-requires
 push_reserved-requires g c =
     let none = rw (← c.self.view_is) at c.requires.absent in
     let room = rw (← c.self.view_is) at c.requires.room in
-    let fits = free_slot (entries_of c.self.inside.slots.items) c.self.inside.index.items _ c.args.page c.args.value c.self.invariant none c.requires.in_range in
+    let fits = free_slot (entries_of c.self.inside.slots.items) c.self.inside.index c.args.page c.args.value c.self.invariant none c.requires.in_range in
     omega (arith, fits, room, c.self.invariant.counted, length-entries_of c.self.inside.slots.items, c.self.inside.slots.ok.0)
+
+pub note-requires-clause-slot_in_range : goal.note-requires-clause-slot_in_range
+note-requires-clause-slot_in_range g c =
+    let fits = free_slot (entries_of c.self.inside.slots.items) c.self.inside.index c.args.page c.args.value c.self.invariant (rw (← c.self.view_is) at c.requires.absent) c.requires.in_range in
+    omega (arith, fits, c.len-slot.ensures, length-entries_of c.self.inside.slots.items, c.self.inside.slots.ok.0)
 
 pub invariant_of-self : goal.invariant_of-self
 invariant_of-self g c =
-    kept_pushed c.self.inside.slots.items _ c.self.inside.index.items _ _ _ _ c.self.invariant (rw (← c.self.view_is) at c.requires.absent) c.requires.in_range c.push_reserved.ensures.items
-    (λ q. c.note_slot.ensures.noted q ∙ ap (λ n. cond (q == c.args.page) (Some n) (get_or c.self.inside.index.items q None)) (c.len-slot.ensures ∙ c.self.inside.slots.ok.0))
-    (let length_is = c.note_slot.new.index.ok.0 in let within = c.note_slot.ensures.within in omega arith) c.note_slot.ensures.room
+    let index = c.self.inside.index in
+    let small : c.args.page < length index = let places = c.self.invariant.places in let within = c.requires.in_range in omega arith in
+    let slot = c.len-slot.ensures ∙ c.self.inside.slots.ok.0 in
+    kept_pushed c.self.inside.slots.items _ index _ _ c.self.invariant (rw (← c.self.view_is) at c.requires.absent) c.requires.in_range c.push_reserved.ensures.items
+    (λ q. index_noted index _ c.args.page _ small c.note.ensures q ∙ ap (λ n. cond (q == c.args.page) (Some n) (get_or index q None)) slot)
+    (length-write index _ c.args.page _ c.note.ensures)
 
 pub returns : goal.returns
 returns g c =
