@@ -1,6 +1,6 @@
 -- A page that gets the frame of another one, in its slot.
-use Rattle.std.proofs.Common.{◌≡◌, ◌≢◌, ℕ, ◌<◌, ◌≤◌, ◌==◌, Bool, true, false, cond, List, length, set, get_or, vec_capacity, refl, sym, ap, ◌∙◌, inl, inr, arith}
-use Rattle.std.proofs.lemmas.Bool.{eq-eqb, ne_eqb, cond-true, cond-false, cases_eq}
+use Rattle.std.proofs.Common.{◌≡◌, ◌≢◌, ℕ, ◌<◌, Bool, true, false, List, length, set, get_or, vec_capacity, refl, sym, ap, ◌∙◌, inl, inr, arith}
+use Rattle.std.proofs.lemmas.Bool.{cases_eq}
 use Rattle.std.proofs.lemmas.List.{length-set, get_or-set_same, get_or-set_other}
 use Rattle.vm_pages.specs.Pages.{contains, insert, remove, count}
 use Rattle.vm_pages.proofs.PageSets.{lt-length, length-insert, length-remove, count-insert, count-remove, contains-insert_same, contains-insert_other, contains-remove_same, contains-remove_other}
@@ -12,13 +12,7 @@ use Rattle.vm_pagemap.specs.PageMap.{page_at, is_in}
 use Rattle.vm_pagemap.specs.Kept.{held_at, page_of, pages_of, AreSlotted, IsKept}
 use Rattle.vm_pagemap.proofs.Kept.{pages_of-changed, page_of-not_in, shown-in, shown-within}
 
--- each page finds the slot that it found before, and `page` that of `victim`
-pub record IsHandedOn (slots slots' : List ℕ) (page victim : ℕ) : Type 0 where
-  pub noted : (q : ℕ) → get_or slots' q 0 ≡ cond (q == page) (get_or slots victim 0) (get_or slots q 0)
-  pub reached : page < length slots'
-  pub no_less : length slots ≤ length slots'
-
-module _ (r : List Bool) (slots slots' : List ℕ) (held : List Held) (page victim : ℕ) (new : Held) (x : AreSlotted r slots held) (h : IsHandedOn slots slots' page victim)
+module _ (r : List Bool) (slots slots' : List ℕ) (held : List Held) (page victim : ℕ) (new : Held) (x : AreSlotted r slots held) (h : slots' ≡ set slots page (get_or slots victim 0))
     (here : contains r victim ≡ true) (absent : contains r page ≡ false) (there : page < length r) (same : new.page ≡ page) where
   abbrev slot : ℕ
   slot = get_or slots victim 0
@@ -30,10 +24,10 @@ module _ (r : List Bool) (slots slots' : List ℕ) (held : List Held) (page vict
   left = remove r victim
 
   slot-page : get_or slots' page 0 ≡ slot
-  slot-page = h.noted page ∙ cond-true _ _ _ (eq-eqb page page refl)
+  slot-page = rw h (get_or-set_same slots page slot 0 (omega (arith, there, x.sized)))
 
   slot-other : (q : ℕ) → q ≢ page → get_or slots' q 0 ≡ get_or slots q 0
-  slot-other q other = h.noted q ∙ cond-false _ _ _ (ne_eqb q page other)
+  slot-other q other = rw h (get_or-set_other slots page q slot 0 other)
 
   held-new : held_at after slot ≡ new
   held-new = get_or-set_same held slot new _ (x.within victim here)
@@ -70,10 +64,7 @@ module _ (r : List Bool) (slots slots' : List ℕ) (held : List Held) (page vict
 
   pub AreSlotted-exchanged : AreSlotted (insert left page) slots' after
   AreSlotted-exchanged = record {
-    reached = λ q c. elim (cases_eq q page) [
-      | inl is ↦ rw is h.reached
-      | inr other ↦ omega (arith, x.reached q (was_left q (was_in q other c)).1, h.no_less)
-    ];
+    sized = ap length h ∙ length-set slots page slot ∙ x.sized ∙ sym (length-insert left page ∙ length-remove r victim);
     within = λ q c. elim (cases_eq q page) [
       | inl is ↦ rw (is, length-set held slot new, slot-page) (x.within victim here)
       | inr other ↦ rw (length-set held slot new, slot-other q other) (x.within q (was_left q (was_in q other c)).1)
@@ -117,38 +108,37 @@ module _ (r : List Bool) (slots slots' : List ℕ) (held : List Held) (page vict
 
 -- ---- the call
 
-module _ (a : Inside) (pages : List Page) (is : pages_of a.resident a.out a.slots.items a.held.items ≡ pages) (kept : IsKept a)
+module _ (a : Inside) (pages : List Page) (is : pages_of a.resident a.out a.slots.list a.held.items ≡ pages) (kept : IsKept a)
     (b : Inside) (page victim at : ℕ) (new : Held) (there : page < length pages) (not_in : is_in (page_at pages page) ≡ false)
-    (victim_there : victim < length pages) (victim_in : is_in (page_at pages victim) ≡ true) (same : new.page ≡ page) (at_is : at ≡ get_or a.slots.items victim 0)
+    (victim_there : victim < length pages) (victim_in : is_in (page_at pages victim) ≡ true) (same : new.page ≡ page) (at_is : at ≡ get_or a.slots.list victim 0)
     (in_after : b.resident ≡ insert (remove a.resident victim) page) (out_after : b.out ≡ remove (insert a.out victim) page)
-    (h : IsHandedOn a.slots.items b.slots.items page victim) (held_after : b.held.items ≡ set a.held.items at new) where
+    (h : b.slots.list ≡ set a.slots.list page (get_or a.slots.list victim 0)) (held_after : b.held.items ≡ set a.held.items at new) where
   here_before : contains a.resident victim ≡ true
   here_before = sym (shown-in a pages victim is victim_there) ∙ victim_in
 
   absent_before : contains a.resident page ≡ false
   absent_before = sym (shown-in a pages page is there) ∙ not_in
 
-  held_is : b.held.items ≡ set a.held.items (get_or a.slots.items victim 0) new
+  held_is : b.held.items ≡ set a.held.items (get_or a.slots.list victim 0) new
   held_is = held_after ∙ ap (λ k. set a.held.items k new) at_is
 
-  pub shown_exchanged : pages_of b.resident b.out b.slots.items b.held.items ≡ set (set pages victim Out) page (In new.frame)
+  pub shown_exchanged : pages_of b.resident b.out b.slots.list b.held.items ≡ set (set pages victim Out) page (In new.frame)
   shown_exchanged =
-      ap (λ r. pages_of r b.out b.slots.items b.held.items) in_after
-      ∙ ap (λ o. pages_of (insert (remove a.resident victim) page) o b.slots.items b.held.items) out_after
-      ∙ ap (pages_of (insert (remove a.resident victim) page) (remove (insert a.out victim) page) b.slots.items) held_is
-      ∙ pages_of-exchanged a.resident a.slots.items b.slots.items a.held.items page victim new kept.slotted h here_before absent_before (shown-within a pages page is there) same a.out kept.same_size
+      ap (λ r. pages_of r b.out b.slots.list b.held.items) in_after
+      ∙ ap (λ o. pages_of (insert (remove a.resident victim) page) o b.slots.list b.held.items) out_after
+      ∙ ap (pages_of (insert (remove a.resident victim) page) (remove (insert a.out victim) page) b.slots.list) held_is
+      ∙ pages_of-exchanged a.resident a.slots.list b.slots.list a.held.items page victim new kept.slotted h here_before absent_before (shown-within a pages page is there) same a.out kept.same_size
       ∙ ap (λ l. set (set l victim Out) page (In new.frame)) is
 
-  pub kept_exchanged : vec_capacity b.held ≡ vec_capacity a.held → vec_capacity a.slots ≤ vec_capacity b.slots → IsKept b
-  kept_exchanged room slots_room =
+  pub kept_exchanged : vec_capacity b.held ≡ vec_capacity a.held → IsKept b
+  kept_exchanged room =
       record {
-        slotted = rw (in_after, held_is) (AreSlotted-exchanged a.resident a.slots.items b.slots.items a.held.items page victim new kept.slotted h here_before absent_before within same);
-        counted = ap length held_is ∙ length-set a.held.items (get_or a.slots.items victim 0) new ∙ kept.counted ∙ sym counted;
+        slotted = rw (in_after, held_is) (AreSlotted-exchanged a.resident a.slots.list b.slots.list a.held.items page victim new kept.slotted h here_before absent_before within same);
+        counted = ap length held_is ∙ length-set a.held.items (get_or a.slots.list victim 0) new ∙ kept.counted ∙ sym counted;
         apart = λ q here. apart q (sym (ap (λ l. contains l q) in_after) ∙ here);
         same_size = omega (arith, ap length out_after, length-remove (insert a.out victim) page, length-insert a.out victim, kept.same_size, len);
         fits = omega (arith, len, kept.fits);
         room = omega (arith, len, kept.room, room);
-        slots_room = omega (arith, len, kept.slots_room, slots_room);
       }
     where
       within : page < length a.resident

@@ -1,6 +1,6 @@
 -- What the fields of a page map say of its pages, before and after one has changed.
-use Rattle.std.proofs.Common.{◌≡◌, ◌≢◌, ℕ, ◌+◌, ◌-◌, ◌<◌, ◌≤◌, ◌^◌, ◌==◌, Bool, true, false, cond, List, [], ◌∷◌, ◌++◌, length, set, vec_capacity, get_or, refl, sym, ap, ◌∙◌, ◌⊎◌, inl, inr, arith}
-use Rattle.std.proofs.lemmas.Bool.{eq-eqb, ne_eqb, cond-true, cond-false, cases_eq, cases_lt}
+use Rattle.std.proofs.Common.{◌≡◌, ◌≢◌, ℕ, ◌+◌, ◌-◌, ◌<◌, ◌≤◌, ◌^◌, Bool, true, false, List, [], ◌∷◌, ◌++◌, length, set, vec_capacity, get_or, refl, sym, ap, ◌∙◌, ◌⊎◌, inl, inr, arith}
+use Rattle.std.proofs.lemmas.Bool.{cases_eq, cases_lt}
 use Rattle.std.proofs.lemmas.List.{length-set, length-append, length-map, get_or-set_same, get_or-set_other, get_or_append_left, get_or_push, get_or_read, get_or-replicate, length-replicate}
 use Rattle.std.proofs.lemmas.List.FromFn.{length-map-range_with_len, get_or-map-range_with_len, fill_by_all}
 use Rattle.vm_pages.specs.Pages.{no_pages, contains, insert, remove, count}
@@ -57,16 +57,14 @@ page_of-not_in g h false = refl
 -- one more frame, in a slot that its page finds
 pub record IsPut (slots slots' : List ℕ) (held held' : List Held) (h : Held) : Type 0 where
   pub pushed : held' ≡ held ++ h ∷ []
-  pub noted : (q : ℕ) → get_or slots' q 0 ≡ cond (q == h.page) (length held) (get_or slots q 0)
-  pub reached : h.page < length slots'
-  pub no_less : length slots ≤ length slots'
+  pub noted : slots' ≡ set slots h.page (length held)
 
-module _ (r : List Bool) (slots slots' : List ℕ) (held held' : List Held) (h : Held) (x : AreSlotted r slots held) (p : IsPut slots slots' held held' h) where
+module _ (r : List Bool) (slots slots' : List ℕ) (held held' : List Held) (h : Held) (there : h.page < length r) (x : AreSlotted r slots held) (p : IsPut slots slots' held held' h) where
   slot-put : get_or slots' h.page 0 ≡ length held
-  slot-put = p.noted h.page ∙ cond-true _ _ _ (eq-eqb h.page h.page refl)
+  slot-put = rw p.noted (get_or-set_same slots h.page (length held) 0 (omega (arith, there, x.sized)))
 
   slot-put_other : (q : ℕ) → q ≢ h.page → get_or slots' q 0 ≡ get_or slots q 0
-  slot-put_other q other = p.noted q ∙ cond-false _ _ _ (ne_eqb q h.page other)
+  slot-put_other q other = rw p.noted (get_or-set_other slots h.page q (length held) 0 other)
 
   held-put : held_at held' (get_or slots' h.page 0) ≡ h
   held-put = rw (slot-put, p.pushed) (get_or_push held h _ (length held) refl)
@@ -91,12 +89,9 @@ module _ (r : List Bool) (slots slots' : List ℕ) (held held' : List Held) (h :
     | inr past ↦ inl (omega (arith, length-put))
   ]
 
-  pub AreSlotted-put : contains r h.page ≡ false → h.page < length r → AreSlotted (insert r h.page) slots' held'
-  AreSlotted-put absent there = record {
-    reached = λ q c. elim (cases_eq q h.page) [
-      | inl same ↦ rw same p.reached
-      | inr other ↦ omega (arith, x.reached q (was q other c), p.no_less)
-    ];
+  pub AreSlotted-put : contains r h.page ≡ false → AreSlotted (insert r h.page) slots' held'
+  AreSlotted-put absent = record {
+    sized = ap length p.noted ∙ length-set slots h.page (length held) ∙ x.sized ∙ sym (length-insert r h.page);
     within = λ q c. elim (cases_eq q h.page) [
       | inl same ↦ rw same (omega (arith, slot-put, length-put))
       | inr other ↦ omega (arith, x.within q (was q other c), slot-put_other q other, length-put)
@@ -122,8 +117,8 @@ module _ (r : List Bool) (slots slots' : List ℕ) (held held' : List Held) (h :
       differs : (slot : ℕ) → slot < length held → (held_at held slot).page ≡ h.page → ⊥
       differs slot before same = let no : false ≡ true = sym absent ∙ ap (contains r) (sym same) ∙ x.owned slot before in absurd (cc)
 
-  pub pages_of-put : (o : List Bool) → contains r h.page ≡ false → h.page < length r → pages_of (insert r h.page) (remove o h.page) slots' held' ≡ set (pages_of r o slots held) h.page (In h.frame)
-  pages_of-put o absent there =
+  pub pages_of-put : (o : List Bool) → contains r h.page ≡ false → pages_of (insert r h.page) (remove o h.page) slots' held' ≡ set (pages_of r o slots held) h.page (In h.frame)
+  pages_of-put o absent =
       pages_of-changed r o (insert r h.page) (remove o h.page) slots slots' held held' h.page (In h.frame) (length-insert r h.page) there
       (rw (contains-insert_same r h.page there, held-put) refl)
       (λ q other. rw (contains-insert_other r h.page q other, contains-remove_other o h.page q other) (same_page q other (contains r q) refl))
@@ -153,7 +148,7 @@ module _ (r : List Bool) (slots slots' : List ℕ) (held held' : List Held) (pag
   slot-moved_before = rw t.last (x.indexed (length held - 1) (omega (arith, within_here)))
 
   slot-moved : get_or slots' moved 0 ≡ get_or slots page 0
-  slot-moved = rw t.noted (get_or-set_same slots moved (get_or slots page 0) 0 (x.reached moved moved_in))
+  slot-moved = rw t.noted (get_or-set_same slots moved (get_or slots page 0) 0 (omega (arith, lt-length r moved moved_in, x.sized)))
 
   slot-other : (q : ℕ) → q ≢ moved → get_or slots' q 0 ≡ get_or slots q 0
   slot-other q other = rw t.noted (get_or-set_other slots moved q (get_or slots page 0) 0 other)
@@ -211,7 +206,7 @@ module _ (r : List Bool) (slots slots' : List ℕ) (held held' : List Held) (pag
 
   pub AreSlotted-taken : AreSlotted (remove r page) slots' held'
   AreSlotted-taken = record {
-    reached = λ q c. let was = was_kept q c in rw (t.noted, length-set) (x.reached q was.1);
+    sized = ap length t.noted ∙ length-set slots moved (get_or slots page 0) ∙ x.sized ∙ sym (length-remove r page);
     within = λ q c. let was = was_kept q c in (kept-taken q was.0 was.1).0;
     listed = λ q c. let was = was_kept q c in ap (λ (g : Held). g.page) (kept-taken q was.0 was.1).1 ∙ x.listed q was.1;
     owned = λ slot within. (has_owner slot within).owned;
@@ -276,7 +271,7 @@ module _ (r : List Bool) (slots : List ℕ) (held : List Held) (page : ℕ) (new
 
   pub AreSlotted-written : AreSlotted r slots (set held slot new)
   AreSlotted-written = record {
-    reached = x.reached;
+    sized = x.sized;
     within = λ q c. rw (length-set held slot new) (x.within q c);
     listed = λ q c. owner-written _ ∙ x.listed q c;
     owned = λ k within. rw (owner-written k) (x.owned k (rw (length-set held slot new) at within));
@@ -296,29 +291,29 @@ module _ (r : List Bool) (slots : List ℕ) (held : List Held) (page : ℕ) (new
 
 -- ---- a page as a caller sees it
 
-module _ (m : Inside) (pages : List Page) (page : ℕ) (is : pages_of m.resident m.out m.slots.items m.held.items ≡ pages) where
+module _ (m : Inside) (pages : List Page) (page : ℕ) (is : pages_of m.resident m.out m.slots.list m.held.items ≡ pages) where
   pub shown-length : length m.resident ≡ length pages
-  shown-length = sym (length-pages_of m.resident m.out m.slots.items m.held.items) ∙ ap length is
+  shown-length = sym (length-pages_of m.resident m.out m.slots.list m.held.items) ∙ ap length is
 
   module _ (there : page < length pages) where
     pub shown-within : page < length m.resident
     shown-within = omega (arith, shown-length, there)
 
-    pub shown-page : page_at pages page ≡ page_under m.resident m.out m.slots.items m.held.items page
-    shown-page = ap (λ l. page_at l page) (sym is) ∙ page_at-pages_of m.resident m.out m.slots.items m.held.items page shown-within
+    pub shown-page : page_at pages page ≡ page_under m.resident m.out m.slots.list m.held.items page
+    shown-page = ap (λ l. page_at l page) (sym is) ∙ page_at-pages_of m.resident m.out m.slots.list m.held.items page shown-within
 
     pub shown-in : is_in (page_at pages page) ≡ contains m.resident page
-    shown-in = ap (λ l. is_in (page_at l page)) (sym is) ∙ is_in-pages_of m.resident m.out m.slots.items m.held.items page shown-within
+    shown-in = ap (λ l. is_in (page_at l page)) (sym is) ∙ is_in-pages_of m.resident m.out m.slots.list m.held.items page shown-within
 
-    pub shown-frame : contains m.resident page ≡ true → page_at pages page ≡ In (held_at m.held.items (get_or m.slots.items page 0)).frame
-    shown-frame here = shown-page ∙ ap (λ b. page_of (held_at m.held.items (get_or m.slots.items page 0)) b (contains m.out page)) here
+    pub shown-frame : contains m.resident page ≡ true → page_at pages page ≡ In (held_at m.held.items (get_or m.slots.list page 0)).frame
+    shown-frame here = shown-page ∙ ap (λ b. page_of (held_at m.held.items (get_or m.slots.list page 0)) b (contains m.out page)) here
 
     pub shown-not_in : (out : Bool) → contains m.resident page ≡ false → contains m.out page ≡ out → page_at pages page ≡ page_of nothing_held false out
     shown-not_in out absent marked =
         shown-page
-        ∙ ap (λ b. page_of (held_at m.held.items (get_or m.slots.items page 0)) b (contains m.out page)) absent
-        ∙ ap (page_of (held_at m.held.items (get_or m.slots.items page 0)) false) marked
-        ∙ page_of-not_in (held_at m.held.items (get_or m.slots.items page 0)) nothing_held out
+        ∙ ap (λ b. page_of (held_at m.held.items (get_or m.slots.list page 0)) b (contains m.out page)) absent
+        ∙ ap (page_of (held_at m.held.items (get_or m.slots.list page 0)) false) marked
+        ∙ page_of-not_in (held_at m.held.items (get_or m.slots.list page 0)) nothing_held out
 
   -- the set of the pages that are in
   pub shown-resident : resident pages ≡ m.resident
@@ -326,7 +321,7 @@ module _ (m : Inside) (pages : List Page) (page : ℕ) (is : pages_of m.resident
       same_pages (resident pages) m.resident (length-map pages is_in ∙ sym shown-length)
       (λ q below.
       let inside : q < length pages = omega (arith, below, length-map pages is_in) in
-      contains-resident pages q ∙ ap (λ l. is_in (page_at l q)) (sym is) ∙ is_in-pages_of m.resident m.out m.slots.items m.held.items q (omega (arith, shown-length, inside)))
+      contains-resident pages q ∙ ap (λ l. is_in (page_at l q)) (sym is) ∙ is_in-pages_of m.resident m.out m.slots.list m.held.items q (omega (arith, shown-length, inside)))
 
 -- ---- a new guest's pages
 
@@ -344,13 +339,13 @@ no_page_in r size q none here =
     let no : false ≡ true = sym (ap (λ l. contains l q) none ∙ contains-no_pages size q) ∙ here in
     absurd (cc)
 
-pub IsKept-none : (m : Inside) (size : ℕ) → m.resident ≡ no_pages size → m.out ≡ no_pages size → m.held.items ≡ [] → size < 2 ^ 32 → size ≤ vec_capacity m.held → size ≤ vec_capacity m.slots → IsKept m
-IsKept-none m size none not_out empty fits room slots_room =
+pub IsKept-none : (m : Inside) (size : ℕ) → m.resident ≡ no_pages size → m.out ≡ no_pages size → length m.slots.list ≡ size → m.held.items ≡ [] → size < 2 ^ 32 → size ≤ vec_capacity m.held → IsKept m
+IsKept-none m size none not_out sized empty fits room =
     let len : length m.resident ≡ size = ap length none ∙ length-no_pages size in
     let no_slot : length m.held.items ≡ 0 = ap length empty in
     record {
       slotted = record {
-        reached = λ q here. absurd (no_page_in m.resident size q none here);
+        sized = sized ∙ sym len;
         within = λ q here. absurd (no_page_in m.resident size q none here);
         listed = λ q here. absurd (no_page_in m.resident size q none here);
         owned = λ slot within. absurd (omega (arith, within, no_slot));
@@ -361,39 +356,37 @@ IsKept-none m size none not_out empty fits room slots_room =
       same_size = ap length not_out ∙ length-no_pages size ∙ sym len;
       fits = omega (arith, len, fits);
       room = omega (arith, len, room);
-      slots_room = omega (arith, len, slots_room);
     }
 
 -- ---- the calls
 
-module _ (a : Inside) (pages : List Page) (is : pages_of a.resident a.out a.slots.items a.held.items ≡ pages) (kept : IsKept a) where
+module _ (a : Inside) (pages : List Page) (is : pages_of a.resident a.out a.slots.list a.held.items ≡ pages) (kept : IsKept a) where
   module _ (b : Inside) (h : Held) (there : h.page < length pages) (not_in : is_in (page_at pages h.page) ≡ false) (in_after : b.resident ≡ insert a.resident h.page) (out_after : b.out ≡ remove a.out h.page)
-      (put : IsPut a.slots.items b.slots.items a.held.items b.held.items h) where
+      (put : IsPut a.slots.list b.slots.list a.held.items b.held.items h) where
     absent_before : contains a.resident h.page ≡ false
     absent_before = sym (shown-in a pages h.page is there) ∙ not_in
 
     within_before : h.page < length a.resident
     within_before = shown-within a pages h.page is there
 
-    pub shown_put : pages_of b.resident b.out b.slots.items b.held.items ≡ set pages h.page (In h.frame)
+    pub shown_put : pages_of b.resident b.out b.slots.list b.held.items ≡ set pages h.page (In h.frame)
     shown_put =
-        ap (λ r. pages_of r b.out b.slots.items b.held.items) in_after
-        ∙ ap (λ o. pages_of (insert a.resident h.page) o b.slots.items b.held.items) out_after
-        ∙ pages_of-put a.resident a.slots.items b.slots.items a.held.items b.held.items h kept.slotted put a.out absent_before within_before
+        ap (λ r. pages_of r b.out b.slots.list b.held.items) in_after
+        ∙ ap (λ o. pages_of (insert a.resident h.page) o b.slots.list b.held.items) out_after
+        ∙ pages_of-put a.resident a.slots.list b.slots.list a.held.items b.held.items h within_before kept.slotted put a.out absent_before
         ∙ ap (λ l. set l h.page (In h.frame)) is
 
-    pub kept_put : vec_capacity b.held ≡ vec_capacity a.held → vec_capacity a.slots ≤ vec_capacity b.slots → IsKept b
-    kept_put room slots_room =
+    pub kept_put : vec_capacity b.held ≡ vec_capacity a.held → IsKept b
+    kept_put room =
         let len : length b.resident ≡ length a.resident = ap length in_after ∙ length-insert a.resident h.page in
-        let longer : length b.held.items ≡ length a.held.items + 1 = length-put a.resident a.slots.items b.slots.items a.held.items b.held.items h kept.slotted put in
+        let longer : length b.held.items ≡ length a.held.items + 1 = length-put a.resident a.slots.list b.slots.list a.held.items b.held.items h within_before kept.slotted put in
         record {
-          slotted = rw in_after (AreSlotted-put a.resident a.slots.items b.slots.items a.held.items b.held.items h kept.slotted put absent_before within_before);
+          slotted = rw in_after (AreSlotted-put a.resident a.slots.list b.slots.list a.held.items b.held.items h within_before kept.slotted put absent_before);
           counted = longer ∙ ap (λ n. n + 1) kept.counted ∙ sym (ap count in_after ∙ count-insert a.resident h.page within_before absent_before);
           apart = λ q here. apart_after q (sym (ap (λ l. contains l q) in_after) ∙ here);
           same_size = ap length out_after ∙ length-remove a.out h.page ∙ kept.same_size ∙ sym len;
           fits = omega (arith, len, kept.fits);
           room = omega (arith, len, kept.room, room);
-          slots_room = omega (arith, len, kept.slots_room, slots_room);
         }
       where
         apart_after : (q : ℕ) → contains (insert a.resident h.page) q ≡ true → contains b.out q ≡ false
@@ -408,59 +401,59 @@ module _ (a : Inside) (pages : List Page) (is : pages_of a.resident a.out a.slot
     pub in_before : contains a.resident page ≡ true
     in_before = sym (shown-in a pages page is there) ∙ page_is_in
 
-    pub slot-reached : page < length a.slots.items
-    slot-reached = kept.slotted.reached page in_before
+    pub slot-reached : page < length a.slots.list
+    slot-reached = omega (arith, lt-length a.resident page in_before, kept.slotted.sized)
 
-    pub slot-within : get_or a.slots.items page 0 < length a.held.items
+    pub slot-within : get_or a.slots.list page 0 < length a.held.items
     slot-within = kept.slotted.within page in_before
 
-    pub shown-held : page_at pages page ≡ In (held_at a.held.items (get_or a.slots.items page 0)).frame
+    pub shown-held : page_at pages page ≡ In (held_at a.held.items (get_or a.slots.list page 0)).frame
     shown-held = shown-frame a pages page is there in_before
 
-    module _ (b : Inside) (moved : ℕ) (in_after : b.resident ≡ remove a.resident page) (out_after : b.out ≡ a.out) (taken : IsTaken a.slots.items b.slots.items a.held.items b.held.items page moved) where
-      pub shown_taken : pages_of b.resident b.out b.slots.items b.held.items ≡ set pages page Absent
+    module _ (b : Inside) (moved : ℕ) (in_after : b.resident ≡ remove a.resident page) (out_after : b.out ≡ a.out) (taken : IsTaken a.slots.list b.slots.list a.held.items b.held.items page moved) where
+      pub shown_taken : pages_of b.resident b.out b.slots.list b.held.items ≡ set pages page Absent
       shown_taken =
-          ap (λ r. pages_of r b.out b.slots.items b.held.items) in_after
-          ∙ ap (λ o. pages_of (remove a.resident page) o b.slots.items b.held.items) out_after
-          ∙ pages_of-taken a.resident a.slots.items b.slots.items a.held.items b.held.items page moved kept.slotted taken in_before a.out (kept.apart page in_before)
+          ap (λ r. pages_of r b.out b.slots.list b.held.items) in_after
+          ∙ ap (λ o. pages_of (remove a.resident page) o b.slots.list b.held.items) out_after
+          ∙ pages_of-taken a.resident a.slots.list b.slots.list a.held.items b.held.items page moved kept.slotted taken in_before a.out (kept.apart page in_before)
           ∙ ap (λ l. set l page Absent) is
 
-      pub kept_taken : vec_capacity b.held ≡ vec_capacity a.held → vec_capacity b.slots ≡ vec_capacity a.slots → IsKept b
-      kept_taken room slots_room =
+      pub kept_taken : vec_capacity b.held ≡ vec_capacity a.held → IsKept b
+      kept_taken room =
           let len : length b.resident ≡ length a.resident = ap length in_after ∙ length-remove a.resident page in
           record {
-            slotted = rw in_after (AreSlotted-taken a.resident a.slots.items b.slots.items a.held.items b.held.items page moved kept.slotted taken in_before);
+            slotted = rw in_after (AreSlotted-taken a.resident a.slots.list b.slots.list a.held.items b.held.items page moved kept.slotted taken in_before);
             counted = omega (arith, taken.shorter, kept.counted, ap count in_after, count-remove a.resident page in_before);
             apart = λ q here. ap (λ l. contains l q) out_after ∙ kept.apart q (contains-remove_before a.resident page q (sym (ap (λ l. contains l q) in_after) ∙ here));
             same_size = ap length out_after ∙ kept.same_size ∙ sym len;
             fits = omega (arith, len, kept.fits);
             room = omega (arith, len, kept.room, room);
-            slots_room = omega (arith, len, kept.slots_room, slots_room);
           }
 
-    module _ (slot : ℕ) (old new : Held) (offset : ℕ) (bytes : List ℕ) (slot_is : slot ≡ get_or a.slots.items page 0) (old_read : old ≡ get_or a.held.items slot old)
+    module _ (slot : ℕ) (old new : Held) (offset : ℕ) (bytes : List ℕ) (slot_is : slot ≡ get_or a.slots.list page 0) (old_read : old ≡ get_or a.held.items slot old)
         (same_page : new.page ≡ old.page) (new_frame : new.frame ≡ record old.frame { bytes = overwritten old.frame.bytes offset bytes }) where
-      old_is : old ≡ held_at a.held.items (get_or a.slots.items page 0)
+      old_is : old ≡ held_at a.held.items (get_or a.slots.list page 0)
       old_is = get_or_read a.held.items slot old (omega (arith, slot_is, slot-within)) old_read nothing_held ∙ ap (held_at a.held.items) slot_is
 
       new_page : new.page ≡ page
       new_page = same_page ∙ ap (λ (g : Held). g.page) old_is ∙ kept.slotted.listed page in_before
 
-      pub shown_written : pages_of a.resident a.out a.slots.items (set a.held.items slot new) ≡ set pages page (written (page_at pages page) offset bytes)
+      pub shown_written : pages_of a.resident a.out a.slots.list (set a.held.items slot new) ≡ set pages page (written (page_at pages page) offset bytes)
       shown_written =
-          ap (λ k. pages_of a.resident a.out a.slots.items (set a.held.items k new)) slot_is
-          ∙ pages_of-written a.resident a.slots.items a.held.items page new kept.slotted in_before new_page a.out
+          ap (λ k. pages_of a.resident a.out a.slots.list (set a.held.items k new)) slot_is
+          ∙ pages_of-written a.resident a.slots.list a.held.items page new kept.slotted in_before new_page a.out
           ∙ ap (λ l. set l page (In new.frame)) is
           ∙ ap (set pages page)
           (ap In (new_frame ∙ ap (λ (g : Held). record g.frame { bytes = overwritten g.frame.bytes offset bytes }) old_is)
           ∙ sym (ap (λ p. written p offset bytes) shown-held))
 
-      pub slotted_written : AreSlotted a.resident a.slots.items (set a.held.items slot new)
-      slotted_written = rw slot_is (AreSlotted-written a.resident a.slots.items a.held.items page new kept.slotted in_before new_page)
+      pub slotted_written : AreSlotted a.resident a.slots.list (set a.held.items slot new)
+      slotted_written = rw slot_is (AreSlotted-written a.resident a.slots.list a.held.items page new kept.slotted in_before new_page)
 
 -- the page of the last frame
 pub moved-reached : (r : List Bool) (slots : List ℕ) (held : List Held) (moved : ℕ) → AreSlotted r slots held → moved ≡ (held_at held (length held - 1)).page → 0 < length held → moved < length slots
-moved-reached r slots held moved x last some = rw last (x.reached _ (x.owned (length held - 1) (omega arith)))
+moved-reached r slots held moved x last some =
+    rw last (omega (arith, lt-length r _ (x.owned (length held - 1) (omega arith)), x.sized))
 
 -- a frame that was taken from a slot, by what the slot was read as
 pub IsTaken-of : (slots slots' : List ℕ) (held held' : List Held) (page moved slot : ℕ) → slot ≡ get_or slots page 0 → moved ≡ (held_at held (length held - 1)).page → slots' ≡ set slots moved slot → length held' + 1 ≡ length held

@@ -3,3 +3,4 @@ pub mod Places
 pub mod FramesUnder
 mod Kept
 mod Exchanged
+mod Last

@@ -29,9 +29,9 @@ page_under resident out slots held page = page_of (held_at held (get_or slots pa
 abbrev pub pages_of : List Bool → List Bool → List ℕ → List Held → List Page
 pages_of resident out slots held = map (page_under resident out slots held) (range_with_len 0 (length resident))
 
--- each page that is in has a slot, and each slot a page that is in
+-- each page that is in finds its slot, and each slot has a page that is in
 pub record AreSlotted (resident : List Bool) (slots : List ℕ) (held : List Held) : Type 0 where
-  pub reached : (page : ℕ) → contains resident page ≡ true → page < length slots
+  pub sized : length slots ≡ length resident
   pub within : (page : ℕ) → contains resident page ≡ true → get_or slots page 0 < length held
   pub listed : (page : ℕ) → contains resident page ≡ true → (held_at held (get_or slots page 0)).page ≡ page
   pub owned : (slot : ℕ) → slot < length held → contains resident (held_at held slot).page ≡ true
@@ -39,10 +39,9 @@ pub record AreSlotted (resident : List Bool) (slots : List ℕ) (held : List Hel
 
 -- the pages have slots, as many as are in; no page is both in and out; and there is room for all to be in
 pub record IsKept (m : Inside) : Type 0 where
-  pub slotted : AreSlotted m.resident m.slots.items m.held.items
+  pub slotted : AreSlotted m.resident m.slots.list m.held.items
   pub counted : length m.held.items ≡ count m.resident
   pub apart : (page : ℕ) → contains m.resident page ≡ true → contains m.out page ≡ false
   pub same_size : length m.out ≡ length m.resident
   pub fits : length m.resident < 2 ^ 32
   pub room : length m.resident ≤ vec_capacity m.held
-  pub slots_room : length m.resident ≤ vec_capacity m.slots

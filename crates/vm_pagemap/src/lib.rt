@@ -5,7 +5,8 @@
 //! order, as a random choice of a page to be paged out needs (section 3.3).
 //!
 //! **Proved**: places, bytes and frame numbers as a whole after each call, each one change of one page, whether its bytes stand in
-//! its frame, in lines of it or in a log beside it. `exchange` changes two pages: one goes out, the other comes into its frame, and
+//! its frame, in lines of it or in a log beside it. `take_frame` gives the frame of some page that is in, and none only where no page
+//! is in; after `clear` each page is absent. `exchange` changes two pages: one goes out, the other comes into its frame, and
 //! the swap area with them (`area`, `pages`). `resident_at` is the k-th page that is in, in rising order, whatever the order in
 //! which pages were placed (`listed`).
 //!

@@ -1,4 +1,4 @@
-ghost use Rattle.std.specs.Prelude.{◌≡◌, ℕ, ◌+◌, ◌==◌, ◌<◌, ◌≤◌, if◌then◌else◌, length, get_or, slice_range, slice_set, slice_index, vec_len, vec_capacity, unwrap_or, None, IfOk, OnErr};
+ghost use Rattle.std.specs.Prelude.{◌≡◌, ℕ, ◌+◌, ◌<◌, ◌≤◌, length, slice_range, slice_set, slice_index, unwrap_or, None, IfNone, IfSome, IfOk, OnErr};
 ghost use Rattle.std.specs.FinMap as slots;
 ghost use Rattle.vm_swap.specs.Area.{zero_bytes};
 ghost use Rattle.vm_pages.specs.Pages.{count, members};
@@ -9,7 +9,7 @@ ghost use Rattle.vm_pagemap.specs.declared.page_map.Page.TheVariants.{In, Out, A
 use std::alloc::{AllocError, Global};
 use std::marker::Model;
 use vm_frames::PAGE_BYTES;
-use vm_pages::PageSet;
+use vm_pages::{PageSet, PageTable};
 use vm_patches::PatchedFrame;
 use vm_swap::{PAGE_LIMIT, SwapArea};
 
@@ -44,16 +44,17 @@ struct Held {
 ///
 /// A contract sees it as the list of its [`Page`]s, and each call that changes one leaves the others as they are. It owns the
 /// frames, so it isn't `Drop`: [`PageMap::close`] ends it, once no page is in. No call but [`PageMap::new`] takes memory.
-/// [`PageMap::resident_at`] passes over one count for each 2048 pages, and then over 32 words at most; the first call by which a
-/// page above all that were in before comes in, [`PageMap::put_frame`] or [`PageMap::exchange`], takes time for the pages between;
-/// all other calls take constant time, but for the bytes that they copy.
+/// [`PageMap::resident_at`] passes over one count for each 2048 pages, and then over 32 words at most; [`PageMap::clear`] takes the
+/// time of [`PageSet::clear`]; all other calls take constant time, but for the bytes that they copy, and for the block of 256 pages
+/// in which a page comes in first.
 ///
-/// A system that gives out memory on first use gives some for as many frames as were in at once, and not for each page.
+/// Where the system gives out memory on first use, a map costs by as many frames as were in at once and by the blocks of the pages
+/// that were ever in, beside two sets of pages.
 pub struct PageMap {
     resident: PageSet,
     out: PageSet,
-    // For each page that is in, where its frame is; up to the greatest page that was ever in.
-    slots: Vec<u32>,
+    // For each page that is in, where its frame is.
+    slots: PageTable<u32>,
     // The frames of the pages that are in, in no order.
     held: Vec<Held>,
 }
@@ -65,22 +66,23 @@ impl Model for PageMap {
 
     ghost Value = { List Page };
 
-    ghost view = { λ m. pages_of m.resident m.out m.slots.items m.held.items };
+    ghost view = { λ m. pages_of m.resident m.out m.slots.list m.held.items };
 
     ghost invariant = { IsKept };
 }
 
 impl PageMap {
-    /// The map of a guest of `size` pages, all of them absent.
+    /// The map of a guest of `size` pages, at most [`PAGE_LIMIT`], all of them absent.
     ///
     /// An error says that memory was refused, which is only where there are pages.
     pub fn new(alloc: Global, size: u32) -> Result<PageMap, AllocError>
+        requires { size ≤ PAGE_LIMIT }
         ensures map { IfOk result (λ m. m ≡ absent_pages size) }
         ensures memory { OnErr result (0 < size) }
     {
         let resident = PageSet::new(alloc, size)?;
         let out = PageSet::new(alloc, size)?;
-        let slots = Vec::with_capacity(alloc, size as usize)?;
+        let slots = PageTable::new(alloc, size, 0)?;
         let held = Vec::with_capacity(alloc, size as usize)?;
         Ok(PageMap {
             resident,
@@ -115,7 +117,7 @@ impl PageMap {
         requires within { offset + length bytes.old ≤ PAGE_BYTES }
         ensures { bytes.new ≡ slice_range (bytes_of (page_at self.now page)) offset (offset + length bytes.old) }
     {
-        let slot = self.slots[page as usize] as usize;
+        let slot = self.slots.get(page) as usize;
         self.held[slot].frame.read(offset, bytes);
     }
 
@@ -126,7 +128,7 @@ impl PageMap {
         requires within { offset + length bytes.now ≤ PAGE_BYTES }
         ensures { self.new ≡ slice_set self.old page (written (page_at self.old page) offset bytes.now) }
     {
-        let slot = self.slots[page as usize] as usize;
+        let slot = self.slots.get(page) as usize;
         write_held(&mut self.held[slot], offset, bytes);
     }
 
@@ -139,7 +141,7 @@ impl PageMap {
         let slot = self.held.len() as u32;
         self.resident.insert(page);
         let _was_out = self.out.remove(page);
-        note_slot(&mut self.slots, page, slot);
+        self.slots.set(page, slot);
         self.held.push_reserved(Held { page, frame });
     }
 
@@ -150,13 +152,27 @@ impl PageMap {
         ensures frame { page_at self.old page ≡ In result }
         ensures absent { self.new ≡ slice_set self.old page Absent }
     {
-        let slot = self.slots[page as usize];
+        let slot = self.slots.get(page);
         // The last frame takes the place of the page's, which may be the last itself.
         let moved = self.held[self.held.len() - 1].page;
-        self.slots[moved as usize] = slot;
+        self.slots.set(moved, slot);
         self.resident.remove(page);
         let Held { page: _, frame } = self.held.swap_remove(slot as usize);
         frame
+    }
+
+    /// Takes the frame of some page that is in, with its bytes, and says which page that is, which is absent then. It is none where
+    /// no page is in.
+    pub fn take_frame(&mut self) -> Option<(u32, PatchedFrame)>
+        ensures none { IfNone result (count (resident self.old) ≡ 0) }
+        ensures unchanged { IfNone result (self.new ≡ self.old) }
+        ensures in_range { IfSome result (λ taken. taken.0 < length self.old) }
+        ensures frame { IfSome result (λ taken. page_at self.old taken.0 ≡ In taken.1) }
+        ensures absent { IfSome result (λ taken. self.new ≡ slice_set self.old taken.0 Absent) }
+    {
+        let Held { page, frame } = self.held.pop()?;
+        self.resident.remove(page);
+        Some((page, frame))
     }
 
     /// Moves a page that is in to the swap area, and puts one that is not in into its frame, with its bytes from there or, where it
@@ -172,12 +188,12 @@ impl PageMap {
         ensures area { area.new ≡ record area.old { pages = slots.insert (slots.remove area.old.pages page) victim (bytes_of (page_at self.old victim)) } }
         ensures pages { self.new ≡ slice_set (slice_set self.old victim Out) page (In (record (frame_of (page_at self.old victim)) { bytes = unwrap_or (slots.get area.old.pages page) zero_bytes })) }
     {
-        let slot = self.slots[victim as usize];
+        let slot = self.slots.get(victim);
         self.resident.remove(victim);
         self.out.insert(victim);
         self.resident.insert(page);
         let _page_was_out = self.out.remove(page);
-        note_slot(&mut self.slots, page, slot);
+        self.slots.set(page, slot);
         trade_held(&mut self.held[slot as usize], page, victim, area);
     }
 
@@ -216,6 +232,14 @@ impl PageMap {
         self.resident.nth(k)
     }
 
+    /// Makes each page of a map with no page in absent, for a guest of the same size to have them.
+    pub fn clear(&mut self)
+        requires { count (resident self.old) ≡ 0 }
+        ensures { self.new ≡ absent_pages (length self.old) }
+    {
+        self.out.clear();
+    }
+
     /// Ends a map with no page in.
     pub fn close(self)
         requires { count (resident self) ≡ 0 }
@@ -228,21 +252,6 @@ impl PageMap {
         } = self;
         held.destroy_empty();
     }
-}
-
-// Lets a page find its frame in a slot, in the room that was reserved.
-fn note_slot(slots: &mut Vec<u32>, page: u32, slot: u32)
-    requires room { page < vec_capacity slots.old }
-    ensures noted { (q : ℕ) → get_or slots.new.items q 0 ≡ (if q == page then slot else get_or slots.old.items q 0) }
-    ensures reached { page < vec_len slots.new }
-    ensures no_less { vec_len slots.old ≤ vec_len slots.new }
-    ensures room { vec_capacity slots.old ≤ vec_capacity slots.new }
-{
-    let at = page as usize;
-    if slots.len() <= at {
-        slots.resize(at + 1, 0).unwrap();
-    }
-    slots[at] = slot;
 }
 
 // Gives the frame to another page, whose bytes come from the swap area. Those of the page that was in it go there.

@@ -17,7 +17,6 @@ invariant_of-self c =
       same_size = c.insert.ensures.size ∙ kept.same_size;
       fits = kept.fits;
       room = kept.room;
-      slots_room = kept.slots_room;
     }
 
 pub returns : goal.returns
@@ -25,4 +24,4 @@ returns c =
     let there = shown-within c.self.inside c.args.self.now c.args.page c.self.view_is c.requires.in_range in
     let absent = sym (shown-in c.self.inside c.args.self.now c.args.page c.self.view_is c.requires.in_range) ∙ c.requires.not_in in
     rw (c.insert.ensures.after, ← c.self.view_is)
-    (pages_of-mark_out c.self.inside.resident c.self.inside.out c.self.inside.slots.items c.self.inside.held.items c.args.page there absent c.self.invariant.same_size)
+    (pages_of-mark_out c.self.inside.resident c.self.inside.out c.self.inside.slots.list c.self.inside.held.items c.args.page there absent c.self.invariant.same_size)

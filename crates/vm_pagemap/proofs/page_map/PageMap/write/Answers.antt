@@ -1,23 +1,21 @@
-use Rattle.std.proofs.Common.{arith}
-use Rattle.std.proofs.lemmas.List.{get_or_read}
+use Rattle.std.proofs.Common.{◌∙◌, arith}
+use Rattle.std.proofs.lemmas.List.{get_or_default}
 use Rattle.vm_pagemap.proofs.Kept.{slot-reached, slot-within, shown_written}
 use Rattle.vm_pagemap.proofs.page_map.PageMap.write.Goals as goal
 
-pub index-requires : goal.index-requires
-index-requires c =
-    let reached = slot-reached c.self.inside c.args.self.now c.self.view_is c.self.invariant c.args.page c.requires.in_range c.requires.is_in in
-    omega (arith, reached, c.self.inside.slots.ok.0)
+pub get-slot-requires : goal.get-slot-requires
+get-slot-requires c = slot-reached c.self.inside c.args.self.now c.self.view_is c.self.invariant c.args.page c.requires.in_range c.requires.is_in
 
 pub index_mut-requires : goal.index_mut-requires
 index_mut-requires c =
     let reached = slot-reached c.self.inside c.args.self.now c.self.view_is c.self.invariant c.args.page c.requires.in_range c.requires.is_in in
     let within = slot-within c.self.inside c.args.self.now c.self.view_is c.self.invariant c.args.page c.requires.in_range c.requires.is_in in
-    let slot = get_or_read c.self.inside.slots.items c.args.page _ reached c.index.ensures 0 in
+    let slot = c.get-slot.ensures ∙ get_or_default c.self.inside.slots.list c.args.page _ 0 reached in
     omega (arith, within, slot, c.self.inside.held.ok.0)
 
 pub returns : goal.returns
 returns c =
     let reached = slot-reached c.self.inside c.args.self.now c.self.view_is c.self.invariant c.args.page c.requires.in_range c.requires.is_in in
-    let slot = get_or_read c.self.inside.slots.items c.args.page _ reached c.index.ensures 0 in
-    shown_written c.self.inside c.args.self.now c.self.view_is c.self.invariant c.args.page c.requires.in_range c.requires.is_in c.index.result.now c.index_mut.result.now c.write_held.new.held c.args.offset c.args.bytes.now slot c.index_mut.ensures.value
+    let slot = c.get-slot.ensures ∙ get_or_default c.self.inside.slots.list c.args.page _ 0 reached in
+    shown_written c.self.inside c.args.self.now c.self.view_is c.self.invariant c.args.page c.requires.in_range c.requires.is_in c.get-slot.result c.index_mut.result.now c.write_held.new.held c.args.offset c.args.bytes.now slot c.index_mut.ensures.value
     c.write_held.ensures.page c.write_held.ensures.frame
