@@ -38,11 +38,11 @@ pub record IsDevice (d : Inside) : Type 0 where
   pub room_early : d.size ≤ vec_capacity d.early_list
   pub few_buffers : d.buffers ≤ 256
   pub posted : length d.inflates.buffers + length d.deflates.buffers + length d.reports.list ≤ d.buffers
-  -- where the device says so, no page buffer is posted
-  pub none_posted : d.has_pages ≡ false → (d.inflates.buffers ≡ []) × (d.deflates.buffers ≡ [])
+  -- where the device says so, no inflate buffer is posted, or no deflate buffer
+  pub no_inflates : d.has_inflates ≡ false → d.inflates.buffers ≡ []
+  pub no_deflates : d.has_deflates ≡ false → d.deflates.buffers ≡ []
   pub room_inflates : d.buffers ≤ d.inflates.room
   pub room_deflates : d.buffers ≤ d.deflates.room
   pub room_reports : d.buffers ≤ d.reports.room
-  pub room_numbers : 256 * d.buffers ≤ vec_capacity d.numbers
   pub room_inflated : 256 * d.buffers ≤ vec_capacity d.served.inflated
   pub room_deflated : 256 * d.buffers ≤ vec_capacity d.served.deflated

@@ -3,6 +3,7 @@ pub mod Statistics
 pub mod Tags
 pub mod StatsOf
 pub mod Service
+pub mod Absent
 pub mod Posted
 pub mod BuffersFields
 pub mod PageQueue

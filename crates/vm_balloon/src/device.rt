@@ -1,22 +1,20 @@
-ghost use Rattle.std.specs.Prelude.{◌≡◌, ◌+◌, ◌*◌, ◌<◌, ◌≤◌, ◌↔◌, ◌++◌, [], Err, All, true, false, IfOk, OnOk, OnErr, length, take, vec_capacity};
+ghost use Rattle.std.specs.Prelude.{◌≡◌, ℕ, ◌+◌, ◌*◌, ◌<◌, ◌≤◌, ◌↔◌, ◌++◌, [], Err, All, true, false, IfOk, OnOk, OnErr, length, reverse, take, vec_capacity};
 ghost use Rattle.std.specs.Borrow.{sem};
 ghost use Rattle.std.specs.Int.{w32, to_le_bytes};
-ghost use Rattle.vm_pages.specs.Pages.{no_pages, contains, count, members, insert_all, remove_all};
+ghost use Rattle.vm_pages.specs.Pages.{no_pages, contains, count, members, insert_all, neither, remove_all, without};
 ghost use Rattle.vm_balloon.specs.Room.{HasRoomFor, KeepsRoom};
 ghost use Rattle.vm_balloon.specs.Service.{numbers_in, refused, inflated_by, deflated_by};
 ghost use Rattle.vm_balloon.specs.Device.{device_of, no_stats, posted_count, with_posted, is_named, with_early_use, inflated, deflated, bad, served, IsGood};
 
 use crate::buffer::MOST_BYTES;
+use crate::decode::MOST_NUMBERS;
 use crate::page_queue::PageQueue;
 use crate::reports::Reports;
-use crate::service::{clear_listed, deflate, inflate, read_numbers};
+use crate::service::{clear_listed, serve_deflates, serve_inflates};
 use crate::{PostError, Stats};
 use std::alloc::{AllocError, Global};
 use std::marker::Model;
 use vm_pages::PageSet;
-
-/// How many page numbers a buffer can have.
-const MOST_NUMBERS: usize = 256;
 
 /// A virtqueue of the balloon (VIRTIO 1.2, section 5.5.2).
 #[derive(Clone, Copy, Debug, PartialEq, Eq)]
@@ -60,13 +58,12 @@ impl Served {
 ///
 /// Clauses read it as `DeviceState` of `specs/Device.antt`. Pages are of 4096 bytes and numbered from 0.
 ///
-/// No call but [`Device::new`] takes memory. `post` takes time for the bytes posted, `serve` for the bytes of page buffers posted
-/// since the last service and the pages used early, `stats` for the bytes of the statistics buffer that was served last, and
-/// `list_ballooned` takes the time of [`PageSet::list_least`]; every other call takes constant time.
+/// No call but [`Device::new`] takes memory. `post` takes time for the bytes posted, `serve` for the page numbers posted since the
+/// last service and the pages used early, and `reset` for both and for the counts of [`PageSet::clear`]; none of them goes by the
+/// guest's size otherwise. `stats` takes time for the bytes of the statistics buffer that was served last, `list_ballooned` and
+/// `list_outside` the time of [`PageSet::list_least`] and of [`PageSet::list_greatest_outside`]; every other call takes constant time.
 #[derive(Drop)]
 pub struct Device {
-    // Page numbers while they are served.
-    numbers: Vec<u32>,
     early: PageSet,
     inflates: PageQueue,
     deflates: PageQueue,
@@ -78,8 +75,10 @@ pub struct Device {
     reports: Reports,
     size: u32,
     buffers: u32,
-    // Whether a page buffer was posted since the last service. Where none was, the next one doesn't look at their queues.
-    has_pages: bool,
+    // Whether an inflate buffer was posted since the last service, and whether a deflate buffer was. The queue of one that was not
+    // isn't looked at.
+    has_inflates: bool,
+    has_deflates: bool,
     num_pages: u32,
     actual: u32,
     balloon: PageSet,
@@ -111,7 +110,6 @@ impl Device {
         ensures memory { OnErr result (0 < size + buffers) }
     {
         let room = buffers as usize;
-        let numbers = Vec::with_capacity(alloc, MOST_NUMBERS * room)?;
         let served = Served::new(alloc, MOST_NUMBERS * room)?;
         let (balloon, early, early_list) = page_sets(alloc, size)?;
         let (inflates, deflates, reports) = queues(alloc, size, room)?;
@@ -124,12 +122,27 @@ impl Device {
             inflates,
             deflates,
             reports,
-            has_pages: false,
+            has_inflates: false,
+            has_deflates: false,
             num_pages: 0,
             actual: 0,
-            numbers,
             served,
         })
+    }
+
+    /// Becomes as it was when it was new, in the memory that it has.
+    pub fn reset(&mut self)
+        ensures { self.new ≡ device_of self.old.size self.old.buffers }
+    {
+        self.inflates.clear();
+        self.deflates.clear();
+        self.has_inflates = false;
+        self.has_deflates = false;
+        self.reports.reset();
+        clear_listed(&mut self.early_list, &mut self.early);
+        self.balloon.clear();
+        self.num_pages = 0;
+        self.actual = 0;
     }
 
     /// Posts a buffer to a queue, where it stays until the next service.
@@ -152,11 +165,11 @@ impl Device {
         match queue {
             Queue::Inflate => {
                 self.inflates.push(bytes);
-                self.has_pages = true;
+                self.has_inflates = true;
             }
             Queue::Deflate => {
                 self.deflates.push(bytes);
-                self.has_pages = true;
+                self.has_deflates = true;
             }
             Queue::Statistics => self.reports.push(bytes),
         }
@@ -249,7 +262,7 @@ impl Device {
         requires { page < self.now.size }
         ensures { result ≡ is_named self.now.inflates page }
     {
-        self.inflates.names(page)
+        self.has_inflates && self.inflates.names(page)
     }
 
     /// Whether a posted deflate buffer names the page.
@@ -257,7 +270,7 @@ impl Device {
         requires { page < self.now.size }
         ensures { result ≡ is_named self.now.deflates page }
     {
-        self.deflates.names(page)
+        self.has_deflates && self.deflates.names(page)
     }
 
     /// The guest uses a page of the balloon before the device gave it back, as a guest may that did not take the feature
@@ -289,39 +302,53 @@ impl Device {
         ensures deflated_pages { All (λ page. page < self.old.size) result.now.deflated.items }
     {
         serve_pages(
-            self.has_pages,
+            self.has_inflates,
+            self.has_deflates,
             &mut self.inflates,
             &mut self.deflates,
             &mut self.balloon,
             &mut self.early,
-            &mut self.numbers,
             &mut self.served,
         );
-        self.has_pages = false;
+        self.has_inflates = false;
+        self.has_deflates = false;
         clear_listed(&mut self.early_list, &mut self.early);
         self.reports.serve();
         &self.served
     }
+
+    /// Makes `pages` the list of the greatest pages of the guest that are neither in a set nor in the balloon, but for one that is
+    /// left out if it is given; at most `most` of them, greatest first, in the room that `pages` has: what a driver may give up before
+    /// it posts pages to be put into the balloon. No page is both in the set and in the balloon.
+    pub fn list_outside(&self, used: &PageSet, except: Option<u32>, most: u32, pages: &mut Vec<u32>)
+        requires same { length used.now ≡ self.now.size }
+        requires apart { (page : ℕ) → contains self.now.balloon page ≡ true → contains used.now page ≡ false }
+        requires room { most ≤ vec_capacity pages.old }
+        ensures listed { pages.new.items ≡ take most (reverse (members (without (neither used.now self.now.balloon) except))) }
+        ensures in_range { All (λ page. page < self.now.size) pages.new.items }
+        ensures room { vec_capacity pages.new ≡ vec_capacity pages.old }
+    {
+        used.list_greatest_outside(&self.balloon, except, most, pages);
+    }
 }
 
 // Serves the page buffers and takes them out: all inflate buffers, then all deflate buffers.
-#[tactic(auto, unfolding(crate::specs::Service::distinct))]
 fn serve_pages(
-    has_pages: bool,
+    has_inflates: bool,
+    has_deflates: bool,
     inflates: &mut PageQueue,
     deflates: &mut PageQueue,
     balloon: &mut PageSet,
     early: &mut PageSet,
-    numbers: &mut Vec<u32>,
     served: &mut Served,
 )
-    requires none { has_pages ≡ false → (inflates.old.buffers ≡ []) × (deflates.old.buffers ≡ []) }
+    requires no_inflates { has_inflates ≡ false → inflates.old.buffers ≡ [] }
+    requires no_deflates { has_deflates ≡ false → deflates.old.buffers ≡ [] }
     requires size { length balloon.old ≡ inflates.old.size }
+    requires same_size { length balloon.old ≡ deflates.old.size }
     requires same_pages { length early.old ≡ length balloon.old }
     requires few_inflates { length inflates.old.buffers ≤ 256 }
     requires few_deflates { length deflates.old.buffers ≤ 256 }
-    requires room_inflates { HasRoomFor numbers.old inflates.old.buffers }
-    requires room_deflates { HasRoomFor numbers.old deflates.old.buffers }
     requires room_inflated { HasRoomFor served.old.inflated inflates.old.buffers }
     requires room_deflated { HasRoomFor served.old.deflated deflates.old.buffers }
     ensures inflated { served.new.inflated.items ≡ inflated_by balloon.old (numbers_in inflates.old.buffers) }
@@ -335,24 +362,12 @@ fn serve_pages(
     ensures early { early.new ≡ remove_all early.old served.new.deflated.items }
     ensures same_balloon_size { length balloon.new ≡ length balloon.old }
     ensures same_early_size { length early.new ≡ length balloon.old }
-    ensures numbers_room { KeepsRoom numbers.old numbers.new }
     ensures inflated_room { KeepsRoom served.old.inflated served.new.inflated }
     ensures deflated_room { KeepsRoom served.old.deflated served.new.deflated }
 {
-    if !has_pages {
-        serve_none(served);
-        return;
-    }
-    let size = inflates.size();
-    let ragged_inflates = read_numbers(inflates.buffers(), numbers);
-    inflate(numbers, size, balloon, &mut served.inflated);
-    let refused_inflates = (numbers.len() - served.inflated.len()) as u32;
-    let ragged_deflates = read_numbers(deflates.buffers(), numbers);
-    deflate(numbers, size, balloon, early, &mut served.deflated);
-    let refused_deflates = (numbers.len() - served.deflated.len()) as u32;
-    served.bad = ragged_inflates + refused_inflates + (ragged_deflates + refused_deflates);
-    inflates.clear();
-    deflates.clear();
+    let bad_inflates = serve_inflates(has_inflates, inflates, balloon, &mut served.inflated);
+    let bad_deflates = serve_deflates(has_deflates, deflates, balloon, early, &mut served.deflated);
+    served.bad = bad_inflates + bad_deflates;
 }
 
 // The balloon, the pages used early, and room for a list of all pages.
@@ -375,7 +390,8 @@ fn queues(
     size: u32,
     room: usize,
 ) -> Result<(PageQueue, PageQueue, Reports), AllocError>
-    requires { size ≤ 262144 }
+    requires size_in_range { size ≤ 262144 }
+    requires room_in_range { room ≤ 256 }
     ensures inflates { IfOk result (λ queues. queues.0 ≡ record { size = size; room = room; buffers = [] }) }
     ensures deflates { IfOk result (λ queues. queues.1 ≡ record { size = size; room = room; buffers = [] }) }
     ensures reports { IfOk result (λ queues. queues.2 ≡ record { room = room; list = []; stats = no_stats }) }
@@ -385,17 +401,4 @@ fn queues(
     let inflates = PageQueue::new(alloc, size, room)?;
     let deflates = PageQueue::new(alloc, size, room)?;
     Ok((inflates, deflates, reports))
-}
-
-// What a service did that found no page buffer.
-fn serve_none(served: &mut Served)
-    ensures inflated { served.new.inflated.items ≡ [] }
-    ensures deflated { served.new.deflated.items ≡ [] }
-    ensures bad { served.new.bad ≡ 0 }
-    ensures inflated_room { KeepsRoom served.old.inflated served.new.inflated }
-    ensures deflated_room { KeepsRoom served.old.deflated served.new.deflated }
-{
-    served.inflated.clear();
-    served.deflated.clear();
-    served.bad = 0;
 }

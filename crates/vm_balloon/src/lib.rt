@@ -7,7 +7,7 @@
 //! ignores and leaves (`serve`: `device`, `inflated`, `deflated`, `bad`); the configuration bytes, page numbers and statistics at
 //! every place, with both round trips (`encode_page`, `encode_stat`: `reads_back`); what holds of every device, as that the balloon
 //! and the pages in early use are disjoint between services (`balloon_len`: `good`); the least ballooned pages in order
-//! (`list_ballooned`). No call but `new` takes memory.
+//! (`list_ballooned`); that a device which is reset is as a new one (`reset`). No call but `new` takes memory.
 //!
 //! **Only tested**: that calls succeed, and the numbers of the errors. **Not claimed**: rings, notifications, transports, any real
 //! driver; speed.
@@ -15,6 +15,7 @@
 
 mod buffer;
 mod buffers;
+mod decode;
 mod device;
 mod error;
 mod page_queue;

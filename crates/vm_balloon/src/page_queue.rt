@@ -1,20 +1,30 @@
-ghost use Rattle.std.specs.Prelude.{◌≡◌, ◌+◌, ◌<◌, ◌≤◌, ◌∷◌, ◌++◌, [], IfOk, OnErr, length};
+ghost use Rattle.std.specs.Prelude.{◌≡◌, ◌+◌, ◌*◌, ◌<◌, ◌≤◌, ◌∷◌, ◌++◌, true, [], All, IfOk, OnErr, length, vec_capacity, vec_len};
+ghost use Rattle.std.specs.Bool.{OnTrue};
 ghost use Rattle.vm_pages.specs.Pages.{insert, remove, insert_all, remove_all};
+ghost use Rattle.vm_balloon.specs.Room.{KeepsRoom};
+ghost use Rattle.vm_balloon.specs.Service.{numbers_in, ragged};
 ghost use Rattle.vm_balloon.specs.Virtio.{page_numbers};
-ghost use Rattle.vm_balloon.specs.Service.{numbers_in};
 ghost use Rattle.vm_balloon.specs.Device.{is_named};
 
-use crate::buffer::Buffer;
 use crate::buffers::Buffers;
-use crate::virtio::{page_count, page_number};
+use crate::decode::{MOST_NUMBERS, append_within, decode, ragged_count};
+use crate::virtio::page_count;
 use std::alloc::{AllocError, Global};
 use std::marker::Model;
 use vm_pages::PageMarks;
 
 /// The page buffers that are posted to one queue, in order, and marks on those of the guest's pages that they name.
+///
+/// The bytes of a buffer are read once, when it is posted: its page numbers stay until it is taken out.
 #[derive(Drop)]
 pub(crate) struct PageQueue {
     size: u32,
+    // How many of the buffers end in bytes that are no page number.
+    ragged_buffers: u32,
+    // Whether no page number is past the guest's pages.
+    in_range: bool,
+    // The page numbers of the buffers, in order.
+    numbers: Vec<u32>,
     buffers: Buffers,
     named: PageMarks,
 }
@@ -34,12 +44,16 @@ impl Model for PageQueue {
 impl PageQueue {
     /// An empty queue of a guest of `size` pages, with room for so many buffers. Memory is wanted only for pages and buffers.
     pub(crate) fn new(alloc: Global, size: u32, room: usize) -> Result<Self, AllocError>
-        requires { size ≤ 262144 }
+        requires size_in_range { size ≤ 262144 }
+        requires room_in_range { room ≤ 256 }
         ensures queue { IfOk result (λ queue. queue ≡ record { size = size; room = room; buffers = [] }) }
         ensures memory { OnErr result (0 < size + room) }
     {
         Ok(PageQueue {
             size,
+            ragged_buffers: 0,
+            in_range: true,
+            numbers: Vec::with_capacity(alloc, MOST_NUMBERS * room)?,
             buffers: Buffers::new(alloc, room)?,
             named: PageMarks::new(alloc, size)?,
         })
@@ -49,18 +63,24 @@ impl PageQueue {
     pub(crate) fn push(&mut self, bytes: &[u8])
         requires short { length bytes.now ≤ 1024 }
         requires room { length self.old.buffers < self.old.room }
+        requires few { length self.old.buffers < 256 }
         ensures { self.new ≡ record self.old { buffers = self.old.buffers ++ bytes.now ∷ [] } }
     {
-        mark_pages(bytes, self.size, &mut self.named);
+        let in_range = keep_numbers(bytes, self.size, &mut self.numbers, &mut self.named);
+        self.in_range &= in_range;
+        self.ragged_buffers += ragged_count(bytes);
         self.buffers.push(bytes);
     }
 
-    /// Takes all buffers out, in time for their bytes.
+    /// Takes all buffers out, in time for their page numbers.
     pub(crate) fn clear(&mut self)
         ensures { self.new ≡ record self.old { buffers = [] } }
     {
-        unmark_all(self.buffers.as_slice(), self.size, &mut self.named);
+        unmark_all(&self.numbers, self.size, self.in_range, &mut self.named);
+        self.numbers.clear();
         self.buffers.clear();
+        self.in_range = true;
+        self.ragged_buffers = 0;
     }
 
     /// How many pages the guest has.
@@ -70,11 +90,20 @@ impl PageQueue {
         self.size
     }
 
-    /// The buffers, in order of posting.
-    pub(crate) fn buffers(&self) -> &[Buffer]
-        ensures { result.now ≡ self.now.buffers }
+    /// The page numbers of the buffers, in order of posting.
+    pub(crate) fn numbers(&self) -> &[u32]
+        ensures numbers { result.now ≡ numbers_in self.now.buffers }
+        ensures few { length result.now ≤ 256 * length self.now.buffers }
     {
-        self.buffers.as_slice()
+        &self.numbers
+    }
+
+    /// How many of the buffers end in bytes that are no page number.
+    pub(crate) fn ragged(&self) -> u32
+        ensures value { result ≡ ragged self.now.buffers }
+        ensures few { result ≤ length self.now.buffers }
+    {
+        self.ragged_buffers
     }
 
     /// How many buffers are posted.
@@ -93,37 +122,63 @@ impl PageQueue {
     }
 }
 
-// Marks the pages that a buffer names.
-#[tactic(auto, using(crate::proofs::VirtioLemmas::map_numbered_more))]
-fn mark_pages(bytes: &[u8], size: u32, named: &mut PageMarks)
-    requires { length named.old ≡ size }
-    ensures { named.new ≡ insert_all named.old (page_numbers bytes.now) }
+// Keeps the page numbers of a buffer, in room that is there, and marks those pages of them that are the guest's. Says whether all are.
+fn keep_numbers(bytes: &[u8], size: u32, numbers: &mut Vec<u32>, named: &mut PageMarks) -> bool
+    requires short { length bytes.now ≤ 1024 }
+    requires room { vec_len numbers.old + 256 ≤ vec_capacity numbers.old }
+    requires size { length named.old ≡ size }
+    ensures numbers { numbers.new.items ≡ numbers.old.items ++ page_numbers bytes.now }
+    ensures few { vec_len numbers.new ≤ vec_len numbers.old + 256 }
+    ensures pages { named.new ≡ insert_all named.old (page_numbers bytes.now) }
+    ensures in_range { OnTrue result (All (λ number. number < size) (page_numbers bytes.now)) }
+    ensures room { KeepsRoom numbers.old numbers.new }
 {
-    for i in 0..page_count(bytes) {
-        mark(page_number(bytes, i), size, named);
+    let places = decode(bytes);
+    let decoded = &places[..page_count(bytes)];
+    append_within(numbers, decoded);
+    mark_all(decoded, size, named)
+}
+
+// Marks those pages that are the guest's, and says whether all are.
+fn mark_all(numbers: &[u32], size: u32, named: &mut PageMarks) -> bool
+    requires { length named.old ≡ size }
+    ensures pages { named.new ≡ insert_all named.old numbers.now }
+    ensures in_range { OnTrue result (All (λ page. page < size) numbers.now) }
+{
+    if are_below(numbers, size) {
+        named.insert_all(numbers);
+        return true;
+    }
+    for &number in numbers {
+        mark(number, size, named);
+    }
+    false
+}
+
+// Takes the marks away of those pages that are the guest's, as all are where `in_range` says so.
+fn unmark_all(numbers: &[u32], size: u32, in_range: bool, named: &mut PageMarks)
+    requires size { length named.old ≡ size }
+    requires in_range { in_range ≡ true → All (λ page. page < size) numbers.now }
+    ensures { named.new ≡ remove_all named.old numbers.now }
+{
+    if in_range {
+        named.remove_all(numbers);
+        return;
+    }
+    for &number in numbers {
+        unmark(number, size, named);
     }
 }
 
-// Takes the marks of all buffers away.
-fn unmark_all(buffers: &[Buffer], size: u32, named: &mut PageMarks)
-    requires { length named.old ≡ size }
-    ensures { named.new ≡ remove_all named.old (numbers_in buffers.now) }
+// Whether all numbers are below the guest's size, in one pass without branches.
+fn are_below(numbers: &[u32], size: u32) -> bool
+    ensures { OnTrue result (All (λ number. number < size) numbers.now) }
 {
-    for buffer in buffers {
-        unmark_pages(buffer.bytes(), size, named);
+    let mut below = true;
+    for &number in numbers {
+        below &= number < size;
     }
-}
-
-// Takes the marks of the pages away that a buffer names.
-#[tactic(auto, using(crate::proofs::VirtioLemmas::map_numbered_more))]
-fn unmark_pages(bytes: &[u8], size: u32, named: &mut PageMarks)
-    requires { length named.old ≡ size }
-    ensures pages { named.new ≡ remove_all named.old (page_numbers bytes.now) }
-    ensures size { length named.new ≡ size }
-{
-    for i in 0..page_count(bytes) {
-        unmark(page_number(bytes, i), size, named);
-    }
+    below
 }
 
 // Marks a page, if it is the guest's.

@@ -61,6 +61,14 @@ impl Reports {
         self.posted.clear();
     }
 
+    /// Takes all buffers out, and forgets what was said, in constant time.
+    pub(crate) fn reset(&mut self)
+        ensures { self.new ≡ record self.old { list = []; stats = no_stats } }
+    {
+        self.posted.clear();
+        self.served.clear();
+    }
+
     /// What the last buffer said that was served.
     pub(crate) fn stats(&self) -> Stats
         ensures { result ≡ self.now.stats }

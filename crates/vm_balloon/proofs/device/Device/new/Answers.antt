@@ -28,11 +28,11 @@ invariant_of-result c =
       room_early = c.in_ok-balloon.ensures.room;
       few_buffers = c.requires.buffers_in_range;
       posted = omega (arith, no_inflates, no_deflates, no_reports);
-      none_posted = λ _. (ap (λ (q : PostedPages). q.buffers) c.in_ok-inflates.ensures.inflates, ap (λ (q : PostedPages). q.buffers) c.in_ok-inflates.ensures.deflates);
+      no_inflates = λ _. ap (λ (q : PostedPages). q.buffers) c.in_ok-inflates.ensures.inflates;
+      no_deflates = λ _. ap (λ (q : PostedPages). q.buffers) c.in_ok-inflates.ensures.deflates;
       room_inflates = omega (arith, inflates_room);
       room_deflates = omega (arith, deflates_room);
       room_reports = omega (arith, reports_room);
-      room_numbers = c.in_ok-numbers.ensures.capacity;
       room_inflated = c.in_ok-served.ensures.inflated;
       room_deflated = c.in_ok-served.ensures.deflated;
     }

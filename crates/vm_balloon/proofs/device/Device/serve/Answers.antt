@@ -47,11 +47,11 @@ invariant_of-self c =
       room_early = omega (arith, old.room_early, c.clear_listed.ensures.room);
       few_buffers = old.few_buffers;
       posted = omega (arith, no_inflates, no_deflates, no_reports);
-      none_posted = λ _. (ap (λ (q : PostedPages). q.buffers) kept.inflates, ap (λ (q : PostedPages). q.buffers) kept.deflates);
+      no_inflates = λ _. ap (λ (q : PostedPages). q.buffers) kept.inflates;
+      no_deflates = λ _. ap (λ (q : PostedPages). q.buffers) kept.deflates;
       room_inflates = omega (arith, old.room_inflates, inflates_room);
       room_deflates = omega (arith, old.room_deflates, deflates_room);
       room_reports = omega (arith, old.room_reports, reports_room);
-      room_numbers = omega (arith, old.room_numbers, kept.numbers_room);
       room_inflated = omega (arith, old.room_inflated, kept.inflated_room);
       room_deflated = omega (arith, old.room_deflated, kept.deflated_room);
     }

@@ -28,11 +28,11 @@ invariant_of-self c =
       room_early = omega (arith, old.room_early, c.push_reserved.ensures.capacity);
       few_buffers = old.few_buffers;
       posted = old.posted;
-      none_posted = old.none_posted;
+      no_inflates = old.no_inflates;
+      no_deflates = old.no_deflates;
       room_inflates = old.room_inflates;
       room_deflates = old.room_deflates;
       room_reports = old.room_reports;
-      room_numbers = old.room_numbers;
       room_inflated = old.room_inflated;
       room_deflated = old.room_deflated;
     }

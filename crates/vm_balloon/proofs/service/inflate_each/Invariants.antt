@@ -3,7 +3,7 @@ use Rattle.std.specs.Prelude.{◌<◌, All}
 use Rattle.std.specs.Vec.{vec_capacity}
 use Rattle.vm_pages.specs.Pages.{insert_all}
 use Rattle.vm_balloon.specs.Service.{inflated_by}
-use Rattle.vm_balloon.proofs.service.inflate.Given as goal
+use Rattle.vm_balloon.proofs.service.inflate_each.Given as goal
 
 abbrev pub invariant-loop-number : goal.invariant-loop-number
 invariant-loop-number l = record {
