@@ -29,7 +29,6 @@ pub mod PostLemmas
 pub mod ReadLemmas
 pub mod RunLemmas
 pub mod SamplingLemmas
-pub mod ServiceLemmas
 pub mod SlotLemmas
 pub mod SoundLemmas
 pub mod StartLemmas

@@ -373,7 +373,6 @@ impl Guest {
             allotment: _,
             memory,
             used,
-            free,
             device,
             sampler,
             words: _,
@@ -384,8 +383,8 @@ impl Guest {
             draft,
         } = parts;
         // By one call: each part's own drop written out here would be dear to check.
-        drop((used, free, device, sampler, used_early, reads, draft));
-        memory.close(spec.size, machine);
+        drop((used, device, sampler, used_early, reads, draft));
+        memory.close(machine);
         spec
     }
 }

@@ -4,7 +4,8 @@ ghost use Rattle.vm_guest.specs.Memory.{spares};
 ghost use Rattle.vm_guest.specs.Parts.{record_of, IsFit};
 ghost use Rattle.vm_guest.specs.Work.{beside_steps, cleared_ahead, draws_ahead, pages_ahead, paging_ahead, steps_ahead, touched, weighed_steps, work_ahead};
 
-use crate::parts::GuestParts;
+use crate::driver::within_rate;
+use crate::parts::{GuestParts, free_len};
 
 // How many steps one that pages takes longer.
 const PAGING_STEPS: u64 = 3;
@@ -129,9 +130,9 @@ fn pages_ahead(parts: &GuestParts) -> u64
     if wanted == ballooned {
         return 0;
     }
-    let growth = wanted.saturating_sub(ballooned).min(parts.free.len());
+    let growth = wanted.saturating_sub(ballooned).min(free_len(parts));
     let distance = growth.max(ballooned.saturating_sub(wanted));
-    u64::from(parts.spec.rate.min(distance))
+    u64::from(within_rate(parts, distance))
 }
 
 // All of it.

@@ -7,9 +7,7 @@ nothing_ahead rate wanted ballooned free same = omega arith
 
 pub returns-clause-value : goal.returns-clause-value
 returns-clause-value c =
-    let fit = rw (← c.parts.view_is) at c.requires.fit in
-    rw (← c.parts.view_is, c.from.ensures, c.min.ensures, c.max-distance.ensures, c.min-growth.ensures, c.saturating_sub.ensures, c.saturating_sub-2.ensures, c.num_pages-wanted.ensures, c.balloon_len-ballooned.ensures.value, c.len.ensures, fit.tied.free) refl
+    rw (c.from.ensures, c.within_rate.ensures.value, c.max-distance.ensures, c.min-growth.ensures, c.saturating_sub.ensures, c.saturating_sub-2.ensures, c.num_pages-wanted.ensures, c.balloon_len-ballooned.ensures.value, c.free_len.ensures) refl
 
 pub returns-then-wanted-ballooned-clause-value : goal.returns-then-wanted-ballooned-clause-value
-returns-then-wanted-ballooned-clause-value c =
-    rw (← c.parts.view_is) (nothing_ahead _ _ _ _ (sym c.num_pages-wanted.ensures ∙ c.if-wanted-ballooned.true ∙ c.balloon_len-ballooned.ensures.value))
+returns-then-wanted-ballooned-clause-value c = nothing_ahead _ _ _ _ (sym c.num_pages-wanted.ensures ∙ c.if-wanted-ballooned.true ∙ c.balloon_len-ballooned.ensures.value)

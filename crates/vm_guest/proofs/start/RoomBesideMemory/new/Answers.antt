@@ -7,14 +7,13 @@ pub returns : goal.returns
 returns c =
     let spec = c.spec.inside in
     rw (← c.spec.view_is) (record {
-      used = c.in_ok-used.ensures.used;
-      free = c.in_ok-used.ensures.free;
+      used = c.in_ok-used.ensures.set;
       device = c.in_ok-new.ensures.device;
       sampling = c.in_ok-sampler.ensures.ok ∙ ap (sampler_of spec.samples spec.period spec.size) c.new-words.ensures;
       words = c.in_ok-sampler.ensures.words ∙ ap (words_after spec.samples) c.new-words.ensures;
       used_early = c.in_ok-used_early.ensures.items;
       early_room = c.in_ok-used_early.ensures.capacity;
-      reads = c.new-4.ensures.items;
+      reads = c.new-5.ensures.items;
       pages_room = c.in_ok-draft.ensures.pages;
       bytes_room = c.in_ok-draft.ensures.bytes;
     })
