@@ -7,6 +7,7 @@ mod pages;
 mod patches;
 mod sampling;
 mod swap;
+mod tables;
 
 use std::fmt::Debug;
 use std::process::Abort;

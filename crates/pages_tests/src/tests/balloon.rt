@@ -294,6 +294,144 @@ fn no_page_in_it(rt: HostRuntime) {
     end(device);
 }
 
+// Page numbers past the guest's pages name no page. They count as bad, and so does a page that comes again, in its buffer or in
+// another one.
+#[test]
+fn numbers_past_the_pages(rt: HostRuntime) {
+    let mut device = new_device(&rt, rt.alloc(), 4, 4);
+    let three_four_and_three = [3, 0, 0, 0, 4, 0, 0, 0, 3, 0, 0, 0];
+    let three_and_one = [3, 0, 0, 0, 1, 0, 0, 0];
+    check_post(&rt, &mut device, Queue::Inflate, &three_four_and_three);
+    check_posted(&rt, &device, 3, true, false);
+    check_post(&rt, &mut device, Queue::Inflate, &three_and_one);
+    check_posted(&rt, &device, 1, true, false);
+    check_service(&rt, &mut device, &[3, 1], &[], 3);
+    check_posted(&rt, &device, 3, false, false);
+    check_posted(&rt, &device, 1, false, false);
+
+    check_post(&rt, &mut device, Queue::Deflate, &three_four_and_three);
+    check_posted(&rt, &device, 3, false, true);
+    check_post(&rt, &mut device, Queue::Deflate, &three_and_one);
+    check_service(&rt, &mut device, &[], &[3, 1], 3);
+    check_posted(&rt, &device, 3, false, false);
+
+    // The queues are as ever afterwards.
+    check_served(
+        &rt,
+        &mut device,
+        Queue::Inflate,
+        &three_and_one,
+        &[3, 1],
+        &[],
+        0,
+    );
+    end(device);
+}
+
+// Pages of three words of marks, some of which come twice, and some of which are in the balloon.
+#[test]
+fn pages_of_many_words(rt: HostRuntime) {
+    let mut device = new_device(&rt, rt.alloc(), 200, 4);
+    let down = [
+        130, 0, 0, 0, 129, 0, 0, 0, 128, 0, 0, 0, 127, 0, 0, 0, 126, 0, 0, 0,
+    ];
+    check_served(
+        &rt,
+        &mut device,
+        Queue::Inflate,
+        &encode_page(129),
+        &[129],
+        &[],
+        0,
+    );
+    check_post(&rt, &mut device, Queue::Inflate, &down);
+    check_post(
+        &rt,
+        &mut device,
+        Queue::Inflate,
+        &[127, 0, 0, 0, 5, 0, 0, 0, 199, 0, 0, 0],
+    );
+    check_posted(&rt, &device, 126, true, false);
+    check_service(&rt, &mut device, &[130, 128, 127, 126, 5, 199], &[], 2);
+    check_posted(&rt, &device, 126, false, false);
+    check_listed(
+        &rt,
+        rt.alloc(),
+        &device,
+        7,
+        &[5, 126, 127, 128, 129, 130, 199],
+    );
+    check_served(
+        &rt,
+        &mut device,
+        Queue::Deflate,
+        &down,
+        &[],
+        &[130, 129, 128, 127, 126],
+        0,
+    );
+    check_len(&rt, &device, 2);
+    end(device);
+}
+
+// Asserts that a device of four pages and three buffers is as it was when it was new.
+fn check_new(rt: &impl Abort, device: &mut Device)
+    requires { device.old.size ≡ 4 }
+    ensures { device.new.size ≡ 4 }
+{
+    check_len(rt, device, 0);
+    check_config(rt, device, [0; 8]);
+    check_stats(rt, device, Stats::default());
+    for page in 0..4 {
+        check_posted(rt, device, page, false, false);
+        check_place(rt, device, page, false, false);
+    }
+    check_service(rt, device, &[], &[], 0);
+}
+
+// Leaves a page in the balloon, another one used early, and a buffer in each queue, with more numbers than are pages.
+fn fill(rt: &impl Abort, device: &mut Device)
+    requires { device.old.size ≡ 4 }
+    ensures { device.new.size ≡ 4 }
+{
+    device.set_num_pages(2);
+    device.set_actual(1);
+    check_post(
+        rt,
+        device,
+        Queue::Statistics,
+        &[5, 0, 9, 0, 0, 0, 0, 0, 0, 0],
+    );
+    check_served(rt, device, Queue::Inflate, &encode_page(1), &[1], &[], 0);
+    use_early(rt, device);
+    check_post(rt, device, Queue::Inflate, &[2, 0, 0, 0, 9, 0, 0, 0, 7]);
+    check_post(rt, device, Queue::Deflate, &encode_page(1));
+    check_post(
+        rt,
+        device,
+        Queue::Statistics,
+        &[5, 0, 8, 0, 0, 0, 0, 0, 0, 0],
+    );
+}
+
+// A device that was used is as new once it is reset.
+fn use_and_reset(rt: &impl Abort, device: &mut Device)
+    requires { device.old.size ≡ 4 }
+    ensures { device.new.size ≡ 4 }
+{
+    fill(rt, device);
+    device.reset();
+    check_new(rt, device);
+}
+
+#[test]
+fn reset(rt: HostRuntime) {
+    let mut device = new_device(&rt, rt.alloc(), 4, 3);
+    use_and_reset(&rt, &mut device);
+    use_and_reset(&rt, &mut device);
+    end(device);
+}
+
 #[test]
 fn early_use(rt: HostRuntime) {
     let mut device = new_device(&rt, rt.alloc(), 4, 2);

@@ -94,6 +94,38 @@ fn remove_frame(rt: &impl Abort, map: &mut PageMap, page: u32) -> PatchedFrame
     map.remove_frame(page)
 }
 
+// Takes a frame from under a page that has one.
+fn take_frame(rt: &impl Abort, map: &mut PageMap) -> (u32, PatchedFrame)
+    requires { length map.old ≡ 8 }
+    ensures size { length map.new ≡ 8 }
+    ensures page { result.0 < 8 }
+{
+    map.take_frame().expect(rt, "a frame")
+}
+
+// Whether there is a frame to take, which goes back under its page.
+fn has_frame(map: &mut PageMap) -> bool
+    requires { length map.old ≡ 8 }
+    ensures { length map.new ≡ 8 }
+{
+    match map.take_frame() {
+        Some((page, frame)) => {
+            map.put_frame(page, frame);
+            true
+        }
+        None => false,
+    }
+}
+
+// Makes all pages absent, none of which is in.
+fn clear(rt: &impl Abort, map: &mut PageMap)
+    requires { length map.old ≡ 8 }
+    ensures { length map.new ≡ 8 }
+{
+    check_number(rt, map.resident(), 0);
+    map.clear();
+}
+
 // Marks a page that is not in as swapped out.
 fn mark_out(rt: &impl Abort, map: &mut PageMap, page: u32)
     requires page { page < 8 }
@@ -156,6 +188,59 @@ fn pages_come_and_go(rt: HostRuntime) {
     mark_absent(&rt, &mut map, 2);
     check_resident(&rt, &map, &[]);
     check_place(&rt, &map, 2, Place::Absent);
+    close_empty(&rt, map);
+    give_only(&rt, machine, frame.release());
+}
+
+#[test]
+fn a_frame_is_taken_with_its_page(rt: HostRuntime) {
+    let (machine, frame) = only_frame(&rt, rt.alloc());
+    let mut map = eight_pages(&rt, rt.alloc());
+    put_frame(&rt, &mut map, 2, PatchedFrame::new(frame));
+    check_eq(&rt, has_frame(&mut map), true);
+    check_resident(&rt, &map, &[2]);
+    let (page, frame) = take_frame(&rt, &mut map);
+    check_eq(&rt, page, 2);
+    check_place(&rt, &map, 2, Place::Absent);
+    check_eq(&rt, has_frame(&mut map), false);
+    close_empty(&rt, map);
+    give_only(&rt, machine, frame.release());
+}
+
+#[test]
+fn each_frame_is_taken(rt: HostRuntime) {
+    let (machine, first, second) = two_frames(&rt, rt.alloc());
+    let numbers = (first.number(), second.number());
+    let mut map = eight_pages(&rt, rt.alloc());
+    put_frame(&rt, &mut map, 5, PatchedFrame::new(first));
+    put_frame(&rt, &mut map, 2, PatchedFrame::new(second));
+    let (page, second) = take_frame(&rt, &mut map);
+    check_eq(&rt, page, 2);
+    check_resident(&rt, &map, &[5]);
+    let (page, first) = take_frame(&rt, &mut map);
+    check_eq(&rt, page, 5);
+    close_empty(&rt, map);
+    give_two(
+        &rt,
+        machine,
+        first.into_frame(),
+        second.into_frame(),
+        numbers,
+    );
+}
+
+#[test]
+fn a_map_is_used_again(rt: HostRuntime) {
+    let (machine, frame) = only_frame(&rt, rt.alloc());
+    let mut map = eight_pages(&rt, rt.alloc());
+    mark_out(&rt, &mut map, 7);
+    put_frame(&rt, &mut map, 2, PatchedFrame::new(frame));
+    let (_, frame) = take_frame(&rt, &mut map);
+    clear(&rt, &mut map);
+    check_place(&rt, &map, 7, Place::Absent);
+    put_frame(&rt, &mut map, 7, frame);
+    check_resident(&rt, &map, &[7]);
+    let frame = remove_frame(&rt, &mut map, 7);
     close_empty(&rt, map);
     give_only(&rt, machine, frame.release());
 }

@@ -1,5 +1,6 @@
 // Sets of pages.
-ghost use Rattle.std.specs.Prelude.{◌≡◌, ◌<◌, All, length};
+ghost use Rattle.std.specs.Prelude.{◌≡◌, ◌<◌, ℕ, All, true, false, length};
+ghost use Rattle.vm_pages.specs.Pages.{contains, no_pages};
 
 use super::{check, check_eq};
 use std::alloc::Global;
@@ -61,7 +62,8 @@ fn check_nth(rt: &impl Abort, set: &PageSet, place: u32, page: u32) {
 
 // A set of no pages, of so many that there may be.
 fn no_pages(rt: &impl Abort, alloc: Global, size: u32) -> PageSet
-    ensures { length result ≡ size }
+    ensures size { length result ≡ size }
+    ensures none { result ≡ no_pages size }
 {
     PageSet::new(alloc, size).expect(rt, "memory")
 }
@@ -207,6 +209,21 @@ fn listed_pages_leave_a_set(rt: HostRuntime) {
     end(set);
 }
 
+#[test]
+fn cleared_sets_are_empty(rt: HostRuntime) {
+    let alloc = rt.alloc();
+    let mut set = no_pages(&rt, alloc, 5000);
+    check_inserts(&rt, &mut set, 5000, &[0, 63, 2048, 4999]);
+    set.clear();
+    check_pages(&rt, &set, &[]);
+    check_greatest(&rt, alloc, &set, 3, &[]);
+    check_eq(&rt, set.contains(63), false);
+    check_eq(&rt, set.remove(4999), false);
+    check_inserts(&rt, &mut set, 5000, &[2049, 64]);
+    check_pages(&rt, &set, &[64, 2049]);
+    end(set);
+}
+
 // Asserts which of these pages, of 130, are marked.
 fn check_marks(rt: &impl Abort, marks: &PageMarks, pages: &[(u32, bool)])
     requires { length marks.now ≡ 130 }
@@ -229,6 +246,18 @@ fn pages_are_marked(rt: HostRuntime) {
     marks.remove(64);
     marks.remove(0);
     check_marks(&rt, &marks, &[(63, true), (64, false), (129, true)]);
+}
+
+#[test]
+fn cleared_marks_are_none(rt: HostRuntime) {
+    let mut marks = PageMarks::new(rt.alloc(), 130).expect(&rt, "memory");
+    marks.insert(129);
+    marks.insert(3);
+    marks.clear();
+    check_marks(&rt, &marks, &[(129, false), (3, false)]);
+    marks.remove(129);
+    marks.insert(64);
+    check_marks(&rt, &marks, &[(129, false), (64, true)]);
 }
 
 // The next number of a linear congruential generator. Its upper bits are the better ones.
@@ -329,4 +358,185 @@ fn made_sets_are_found_and_listed_like_lists(rt: HostRuntime) {
     check_made_sets(&rt, rt.alloc(), 2048);
     check_made_sets(&rt, rt.alloc(), 2049);
     check_made_sets(&rt, rt.alloc(), 4096);
+}
+
+// Asserts that marks, a set that changed by lists, and one that changed page by page are the same.
+fn check_alike(rt: &impl Abort, marks: &PageMarks, set: &PageSet, other: &PageSet, size: u32)
+    requires marks { length marks.now ≡ size }
+    requires set { length set.now ≡ size }
+    requires other { length other.now ≡ size }
+{
+    check_eq(rt, set.len(), other.len());
+    for page in 0..size {
+        let wanted = other.contains(page);
+        check_eq(
+            rt,
+            (page, marks.contains(page), set.contains(page)),
+            (page, wanted, wanted),
+        );
+    }
+}
+
+// Adds pages to a set one by one.
+fn insert_each(set: &mut PageSet, size: u32, pages: &[u32])
+    requires in_range { All (λ page. page < size) pages.now }
+    requires size { length set.old ≡ size }
+    ensures { length set.new ≡ size }
+{
+    for &page in pages {
+        set.insert(page);
+    }
+}
+
+// Takes pages out of a set one by one.
+fn remove_each(set: &mut PageSet, size: u32, pages: &[u32])
+    requires in_range { All (λ page. page < size) pages.now }
+    requires size { length set.old ≡ size }
+    ensures { length set.new ≡ size }
+{
+    for &page in pages {
+        set.remove(page);
+    }
+}
+
+// Marks on no pages, of so many that there may be.
+fn no_marks(rt: &impl Abort, alloc: Global, size: u32) -> PageMarks
+    ensures { length result ≡ size }
+{
+    PageMarks::new(alloc, size).expect(rt, "memory")
+}
+
+// Lets drawn pages come into marks and sets and leave them, by lists and one by one.
+fn check_runs(rt: &impl Abort, alloc: Global, size: u32)
+    requires { 0 < size }
+{
+    let mut marks = no_marks(rt, alloc, size);
+    let mut set = no_pages(rt, alloc, size);
+    let mut other = no_pages(rt, alloc, size);
+    let come = pages_below(rt, alloc, size, &draw_pages(rt, alloc, size, size / 4));
+    marks.insert_all(&come);
+    set.insert_all(&come);
+    insert_each(&mut other, size, &come);
+    check_alike(rt, &marks, &set, &other, size);
+    let go = pages_below(rt, alloc, size, &draw_pages(rt, alloc, size, size / 8));
+    marks.remove_all(&go);
+    set.remove_all(&go);
+    remove_each(&mut other, size, &go);
+    check_alike(rt, &marks, &set, &other, size);
+}
+
+#[test]
+fn lists_of_pages_come_and_go(rt: HostRuntime) {
+    check_runs(&rt, rt.alloc(), 64);
+    check_runs(&rt, rt.alloc(), 130);
+    check_runs(&rt, rt.alloc(), 4100);
+}
+
+// A set of no pages, and so of none that another set has.
+fn apart_from(rt: &impl Abort, alloc: Global, set: &PageSet, size: u32) -> PageSet
+    ensures size { length result ≡ size }
+    ensures apart { (page : ℕ) → contains result page ≡ true → contains set.now page ≡ false }
+{
+    no_pages(rt, alloc, size)
+}
+
+// Adds a page to a set, if another one doesn't have it.
+fn add_other(others: &mut PageSet, set: &PageSet, size: u32, page: u32)
+    requires in_range { page < size }
+    requires size { length set.now ≡ size }
+    requires others_size { length others.old ≡ size }
+    requires apart { (page : ℕ) → contains others.old page ≡ true → contains set.now page ≡ false }
+    ensures size { length others.new ≡ size }
+    ensures apart { (page : ℕ) → contains others.new page ≡ true → contains set.now page ≡ false }
+{
+    if !set.contains(page) {
+        others.insert(page);
+    }
+}
+
+// A set of about one of `gap` pages, of those that another set doesn't have.
+fn others_of(rt: &impl Abort, alloc: Global, set: &PageSet, size: u32, gap: u32) -> PageSet
+    requires size { length set.now ≡ size }
+    requires gap { 0 < gap }
+    ensures size { length result ≡ size }
+    ensures apart { (page : ℕ) → contains result page ≡ true → contains set.now page ≡ false }
+{
+    let mut others = apart_from(rt, alloc, set, size);
+    let mut number = gap;
+    for page in 0..size {
+        number = next_number(number);
+        if (number >> 20) % gap == 0 {
+            add_other(&mut others, set, size, page);
+        }
+    }
+    others
+}
+
+// The greatest pages that are in neither of two sets but one, by a look at each page.
+fn outside_of(
+    rt: &impl Abort,
+    alloc: Global,
+    set: &PageSet,
+    others: &PageSet,
+    size: u32,
+    except: Option<u32>,
+) -> Vec<u32>
+    requires set { length set.now ≡ size }
+    requires others { length others.now ≡ size }
+{
+    let mut pages = Vec::new(alloc);
+    for page in (0..size).rev() {
+        if !set.contains(page) && !others.contains(page) && except != Some(page) {
+            pages.push(page).expect(rt, "memory");
+        }
+    }
+    pages
+}
+
+// Asserts which pages are listed that are in neither of two sets, but one.
+fn check_outside(
+    rt: &impl Abort,
+    alloc: Global,
+    set: &PageSet,
+    others: &PageSet,
+    size: u32,
+    except: Option<u32>,
+    most: u32,
+)
+    requires set { length set.now ≡ size }
+    requires others { length others.now ≡ size }
+    requires apart { (page : ℕ) → contains others.now page ≡ true → contains set.now page ≡ false }
+{
+    let wanted = outside_of(rt, alloc, set, others, size, except);
+    let mut listed = Vec::with_capacity(alloc, most as usize).expect(rt, "memory");
+    set.list_greatest_outside(others, except, most, &mut listed);
+    check_eq(
+        rt,
+        listed.as_slice(),
+        &wanted[..wanted.len().min(most as usize)],
+    );
+}
+
+// The same of a set of about one of `gap` pages, and another one of those that it doesn't have.
+fn check_outside_made(rt: &impl Abort, alloc: Global, size: u32, gap: u32, other_gap: u32)
+    requires gap { 0 < gap }
+    requires other_gap { 0 < other_gap }
+{
+    let mut set = no_pages(rt, alloc, size);
+    let mut pages = Vec::new(alloc);
+    add_pages(rt, &mut set, size, gap, &mut pages);
+    let others = others_of(rt, alloc, &set, size, other_gap);
+    check_outside(rt, alloc, &set, &others, size, None, 5000);
+    check_outside(rt, alloc, &set, &others, size, Some(size / 2), 5000);
+    check_outside(rt, alloc, &set, &others, size, Some(size), 70);
+    check_outside(rt, alloc, &set, &others, size, Some(0), 1);
+}
+
+#[test]
+fn pages_outside_two_sets_are_listed(rt: HostRuntime) {
+    check_outside_made(&rt, rt.alloc(), 63, 3, 2);
+    check_outside_made(&rt, rt.alloc(), 2048, 50, 1);
+    check_outside_made(&rt, rt.alloc(), 2049, 1, 1);
+    check_outside_made(&rt, rt.alloc(), 4200, 3, 3);
+    check_outside_made(&rt, rt.alloc(), 4200, 50, 50);
 }

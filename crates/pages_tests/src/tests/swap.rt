@@ -184,6 +184,55 @@ fn greatest_area(rt: HostRuntime) {
     check_eq(&rt, area.zero_page(0), false);
 }
 
+// No guest has pages of such numbers, so none is there.
+#[test]
+fn pages_past_the_limit(rt: HostRuntime) {
+    let mut area = SwapArea::new(rt.alloc(), 1).expect(&rt, "memory");
+    put(&rt, &mut area, 262143, 9);
+    for page in [262144, u32::MAX] {
+        check_absent(&rt, &area, page);
+        check_eq(&rt, area.zero_page(page), false);
+        check_eq(&rt, area.drop_page(page), false);
+    }
+    check_page(&rt, &area, 262143, 9);
+}
+
+// The pages that may be out are gone, and there is the same room as before.
+fn check_emptied(rt: &impl Abort, area: &SwapArea, capacity: u32) {
+    check_sizes(rt, area, 0, capacity);
+    for page in [0, 1, 2, 7, 262143] {
+        check_absent(rt, area, page);
+    }
+}
+
+// An area that is emptied, with pages of each kind in it and one that is gone already, takes pages again: the first slots, for other
+// pages than before.
+#[test]
+fn emptied_area(rt: HostRuntime) {
+    let (machine, frame) = only_frame(&rt, rt.alloc());
+    let mut area = SwapArea::new(rt.alloc(), 3).expect(&rt, "memory");
+    area.empty();
+    check_emptied(&rt, &area, 3);
+    put(&rt, &mut area, 1, 1);
+    put(&rt, &mut area, 7, 7);
+    put(&rt, &mut area, 262143, 9);
+    check_eq(&rt, area.drop_page(7), true);
+    let mut frame = PatchedFrame::new(frame);
+    frame.write(5, &[3]);
+    trade(&rt, &mut area, 0, 2, &mut frame);
+    check_sizes(&rt, &area, 3, 3);
+    area.empty();
+    check_emptied(&rt, &area, 3);
+    put(&rt, &mut area, 262143, 8);
+    put(&rt, &mut area, 7, 6);
+    check_page(&rt, &area, 262143, 8);
+    check_page(&rt, &area, 7, 6);
+    check_absent(&rt, &area, 1);
+    check_absent(&rt, &area, 2);
+    check_sizes(&rt, &area, 2, 3);
+    give_only(&rt, machine, frame.release());
+}
+
 // Makes room for so many pages more. Those that are there stay: each has this byte at a place of its own.
 fn check_grows(rt: &impl Abort, area: &mut SwapArea, more: u32)
     requires { more < 1000 }
