@@ -23,13 +23,14 @@ pub(crate) enum Kind {
     Vmtrace,
     Vmsteer,
     Vmlog,
+    Vmcheck,
     Files,
     Help,
 }
 
 impl Kind {
     /// All of them, in the order in which they are tried.
-    pub(crate) const ALL: [Kind; 15] = [
+    pub(crate) const ALL: [Kind; 16] = [
         Kind::Reports,
         Kind::Series,
         Kind::Charts,
@@ -43,6 +44,7 @@ impl Kind {
         Kind::Vmtrace,
         Kind::Vmsteer,
         Kind::Vmlog,
+        Kind::Vmcheck,
         Kind::Files,
         Kind::Help,
     ];
@@ -63,6 +65,7 @@ impl Kind {
             Kind::Vmtrace => "vmtrace",
             Kind::Vmsteer => "vmsteer",
             Kind::Vmlog => "vmlog",
+            Kind::Vmcheck => "vmcheck",
             Kind::Files => "files",
             Kind::Help => "help",
         }
@@ -89,6 +92,7 @@ impl Kind {
             | Kind::Vmtrace
             | Kind::Vmsteer
             | Kind::Vmlog
+            | Kind::Vmcheck
             | Kind::Files
             | Kind::Help => ends::try_block(rt, block, tally),
         }

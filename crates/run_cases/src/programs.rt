@@ -2,7 +2,7 @@
 use crate::streams::{Given, Narrow};
 use crate::system::FakeSystem;
 use std::thread::Threads;
-use vm_programs::{vmlog, vmmem, vmseries, vmsteer, vmsweep, vmtrace};
+use vm_programs::{vmcheck, vmlog, vmmem, vmseries, vmsteer, vmsweep, vmtrace};
 
 /// What a program ended with, and what it said and wrote.
 #[derive(Drop)]
@@ -24,6 +24,7 @@ pub(crate) fn end<RT: AllocGlobal + Threads + Sync>(
     let system = FakeSystem::new(rt.alloc(), words);
     let program = words.first()?;
     let status = match *program {
+        "vmcheck" => vmcheck::status(&system, &mut reader, &mut writer),
         "vmlog" => vmlog::status(&system, &mut reader, &mut writer),
         "vmmem" => vmmem::status(rt, &system, &mut reader, &mut writer),
         "vmseries" => vmseries::status(rt, &system, &mut reader, &mut writer),

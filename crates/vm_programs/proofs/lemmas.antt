@@ -1,4 +1,5 @@
 pub mod runs
+pub mod vmcheck
 pub mod vmmem
 pub mod vmseries
 pub mod vmsweep

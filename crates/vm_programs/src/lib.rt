@@ -7,9 +7,9 @@
 //! **Proved** of each program, for a reader and a writer whose bytes are known: it is safe, and its status is 0 to 3 (`known`). 0
 //! comes only where what the words ask for was written, and nothing else (`done`); 1 only where the text or the policy is refused,
 //! and nothing was written (`refused`, `silent`; of `vmtrace` where a line is refused or no page is touched, and then at most a
-//! front was written); 2 only where nothing was read or written (`unread`, `unwritten`); and where it is 3, a front of that text
-//! was written, or nothing (`stopped`). A reader or a writer that fails in the call, and had not before, is always answered by 3
-//! (`reader_failed`, `writer_failed`). With given words (`status_for`), 0 and 1 come only where the command line takes them
+//! front was written; of `vmcheck` where something is found, and that was written: `found`); 2 only where nothing was read or
+//! written (`unread`, `unwritten`); and where it is 3, a front of that text was written, or nothing (`stopped`). A reader or a writer
+//! that fails in the call, and had not before, is always answered by 3 (`reader_failed`, `writer_failed`). With given words (`status_for`), 0 and 1 come only where the command line takes them
 //! (`taken`), 2 only where it doesn't (`untaken`); lists of words show which are taken (`law_words`). With the system's words
 //! (`status`) the same holds of some words. What the words ask for is what they say, in its ranges; `asked_of` of `vmsweep` tells
 //! the first fault in the order of the lists, then that of the lists together, then of a drawing (`read_words`: `lists`, `within`,

@@ -1,4 +1,5 @@
-//! Tells what is wrong or surprising in a configuration in FILE or on standard input, a line for each finding: `vmcheck [FILE]`.
+//! Tells what is wrong or surprising in a configuration or a policy in FILE or on standard input, a line for each finding:
+//! `vmcheck [--policy] [FILE]`.
 #![tactic(auto)]
 
 use std::process::ExitCode;
