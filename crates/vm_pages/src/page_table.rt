@@ -93,6 +93,25 @@ impl<T: Copy> PageTable<T> {
         self.items[place] = item;
     }
 
+    /// Sets the item of a page, and answers the one that it had.
+    #[inline]
+    pub fn replace(&mut self, page: u32, item: T) -> T
+        requires { page < length self.old.list }
+        ensures before { result ≡ get_or self.old.list page self.old.first }
+        ensures after { self.new ≡ with_item self.old page item }
+    {
+        let place = place_for(
+            &mut self.blocks,
+            &mut self.items,
+            self.size,
+            self.first,
+            page,
+        );
+        let before = self.items[place];
+        self.items[place] = item;
+        before
+    }
+
     /// Gives each page the first item again, in constant time.
     pub fn clear(&mut self)
         ensures { self.new ≡ first_items self.old.first (length self.old.list) }

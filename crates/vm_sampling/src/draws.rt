@@ -1,22 +1,26 @@
-ghost use Rattle.std.specs.Prelude.{◌≡◌, ◌<◌, ◌≤◌, [], All, IfOk, OnErr, length};
-ghost use Rattle.vm_sampling.specs.Counts.{HasCounts, draws_of};
+ghost use Rattle.std.specs.Prelude.{◌≡◌, ◌<◌, ◌≤◌, [], All, IfOk, OnErr, length, min};
+ghost use Rattle.vm_sampling.specs.Counts.{AreCounts, classes_of, draws_of};
 ghost use Rattle.vm_sampling.specs.Drawn.{pages_drawn};
 ghost use Rattle.vm_sampling.specs.Words.{draws, words_after};
 
 use crate::Words;
 use std::alloc::{AllocError, Global};
 use std::marker::Model;
-use vm_pages::PageTable;
+
+// The pages whose numbers differ by a multiple of this are one class.
+const CLASSES: u32 = 4096;
 
 // The pages that are drawn for a period, with replacement.
 //
 // A new period only sets the words of its draws aside. The draws are made when a page is first asked for, so a period in which no
-// page is touched costs none.
+// page is touched costs none. Draws are counted by classes of pages, so that the counts of a large guest stay in the processor's
+// cache: most pages of it are in a class that no draw gave, and for the others the draws are looked through.
 #[derive(Debug, Drop)]
 pub(crate) struct Draws {
+    size: u32,
     drawn: Vec<u32>,
-    // How many of the draws that were made gave each page. Before any were, they count as draws of page 0.
-    draws_of: PageTable<u16>,
+    // How many of the draws that were made gave a page of each class. Before any were, they count as draws of page 0.
+    counts: Vec<u16>,
     // The words of the draws that are still to be made, in place of those that were.
     due: Option<Words>,
 }
@@ -48,12 +52,13 @@ impl Draws {
         ensures err { OnErr result (words.new ≡ words.old) }
     {
         let drawn = vec![in alloc; 0u32; n as usize]?;
-        let mut draws_of = PageTable::new(alloc, size, 0)?;
-        draws_of.set(0, n as u16);
+        let mut counts = vec![in alloc; 0u16; size.min(CLASSES) as usize]?;
+        counts[0] = n as u16;
         let due = Some(words.set_aside(u64::from(n)));
         Ok(Draws {
+            size,
             drawn,
-            draws_of,
+            counts,
             due,
         })
     }
@@ -80,57 +85,83 @@ impl Draws {
         ensures same { self.new ≡ self.old }
     {
         let due = self.due.take();
-        make_draws(due, &mut self.drawn, &mut self.draws_of);
-        u32::from(self.draws_of.get(page))
+        make_draws(due, self.size, &mut self.drawn, &mut self.counts);
+        count_in(&self.drawn, &self.counts, self.size, page)
     }
 }
 
+// How many of the draws gave the page, by the count of its class where that is enough.
+fn count_in(drawn: &[u32], counts: &[u16], size: u32, page: u32) -> u32
+    requires few_draws { length drawn.now ≤ 1000 }
+    requires pages { All (λ page. page < size) drawn.now }
+    requires in_range { page < size }
+    requires all { length counts.now ≡ classes_of size }
+    requires counted { AreCounts drawn.now counts.now }
+    ensures { result ≡ draws_of drawn.now page }
+{
+    let count = u32::from(counts[(page % CLASSES) as usize]);
+    if CLASSES < size && 0 < count {
+        times_drawn(drawn, page)
+    } else {
+        count
+    }
+}
+
+// How many of the draws gave the page. Not inlined, since it is seldom asked.
+#[inline(never)]
+fn times_drawn(drawn: &[u32], page: u32) -> u32
+    requires { length drawn.now ≤ 1000 }
+    ensures { result ≡ draws_of drawn.now page }
+{
+    drawn.iter().filter(|&&other| other == page).count() as u32
+}
+
 // Makes the draws that are due, if there are any.
-fn make_draws(due: Option<Words>, drawn: &mut [u32], draws_of: &mut PageTable<u16>)
+fn make_draws(due: Option<Words>, size: u32, drawn: &mut [u32], counts: &mut [u16])
     requires few_draws { length drawn.old ≤ 1000 }
-    requires some_pages { 0 < length draws_of.old.list }
-    requires few_pages { length draws_of.old.list ≤ 262144 }
-    requires pages { All (λ page. page < length draws_of.old.list) drawn.old }
-    requires counted { HasCounts drawn.old draws_of.old }
-    ensures drawn { drawn.new ≡ pages_drawn due drawn.old (length draws_of.old.list) }
-    ensures pages { All (λ page. page < length draws_of.old.list) drawn.new }
-    ensures counted { HasCounts drawn.new draws_of.new }
-    ensures all { length draws_of.new.list ≡ length draws_of.old.list }
+    requires pages_in_range { (1 ≤ size) × (size ≤ 262144) }
+    requires pages { All (λ page. page < size) drawn.old }
+    requires all { length counts.old ≡ classes_of size }
+    requires counted { AreCounts drawn.old counts.old }
+    ensures drawn { drawn.new ≡ pages_drawn due drawn.old size }
+    ensures pages { All (λ page. page < size) drawn.new }
+    ensures all { length counts.new ≡ length counts.old }
+    ensures counted { AreCounts drawn.new counts.new }
 {
     if let Some(mut words) = due {
-        clear_counts(drawn, draws_of);
-        redraw(drawn, draws_of, &mut words);
+        clear_counts(drawn, counts, size);
+        redraw(drawn, counts, size, &mut words);
     }
 }
 
 // Takes the draws out of the counts, one by one.
-fn clear_counts(drawn: &[u32], draws_of: &mut PageTable<u16>)
-    requires pages { All (λ page. page < length draws_of.old.list) drawn.now }
-    requires counted { HasCounts drawn.now draws_of.old }
-    ensures counted { HasCounts [] draws_of.new }
-    ensures all { length draws_of.new.list ≡ length draws_of.old.list }
+fn clear_counts(drawn: &[u32], counts: &mut [u16], size: u32)
+    requires pages { All (λ page. page < size) drawn.now }
+    requires all { length counts.old ≡ classes_of size }
+    requires counted { AreCounts drawn.now counts.old }
+    ensures counted { AreCounts [] counts.new }
+    ensures all { length counts.new ≡ length counts.old }
 {
     for &page in drawn {
-        draws_of.set(page, draws_of.get(page) - 1);
+        counts[(page % CLASSES) as usize] -= 1;
     }
 }
 
-// Draws each of the pages anew, and counts how many of the draws give each page.
-fn redraw(drawn: &mut [u32], draws_of: &mut PageTable<u16>, words: &mut Words)
+// Draws each of the pages anew, and counts how many of the draws give a page of each class.
+fn redraw(drawn: &mut [u32], counts: &mut [u16], size: u32, words: &mut Words)
     requires few_draws { length drawn.old ≤ 1000 }
-    requires some_pages { 0 < length draws_of.old.list }
-    requires few_pages { length draws_of.old.list ≤ 262144 }
-    requires cleared { HasCounts [] draws_of.old }
-    ensures drawn { drawn.new ≡ draws (length drawn.old) (length draws_of.old.list) words.old }
-    ensures pages { All (λ page. page < length draws_of.old.list) drawn.new }
-    ensures counted { HasCounts drawn.new draws_of.new }
-    ensures all { length draws_of.new.list ≡ length draws_of.old.list }
+    requires pages_in_range { (1 ≤ size) × (size ≤ 262144) }
+    requires all { length counts.old ≡ classes_of size }
+    requires cleared { AreCounts [] counts.old }
+    ensures drawn { drawn.new ≡ draws (length drawn.old) size words.old }
+    ensures pages { All (λ page. page < size) drawn.new }
+    ensures counted { AreCounts drawn.new counts.new }
+    ensures all { length counts.new ≡ length counts.old }
     ensures words { words.new ≡ words_after (length drawn.old) words.old }
 {
-    let size = draws_of.len();
     for place in drawn.iter_mut() {
         let page = words.pick(size);
         *place = page;
-        draws_of.set(page, draws_of.get(page) + 1);
+        counts[(page % CLASSES) as usize] += 1;
     }
 }

@@ -19,12 +19,13 @@ const WHOLE: u32 = 65536;
 /// Clauses read it as `Sampling` of `specs/Sampling.antt`. No call but [`Sampler::new`] takes memory.
 ///
 /// A step, a touch and [`Sampler::active`] take constant time, and so do idle steps at once, but for a logarithm of their number.
-/// The first touch of a period alone takes time for the period's draws, which are left until then. The touched pages are marked
+/// The first touch of a period alone takes time for the period's draws, which are left until then, and so does one of a page of a large
+/// guest that shares its class with a drawn one. The touched pages are marked
 /// with the number of the period, so none has to be cleared but once in 65535 periods, when the numbers begin anew.
 ///
-/// A page takes four bytes, which are asked for at the start and written in blocks of 256 pages: two bytes a page of a block in which
-/// a page is touched, and two of one in which a page is drawn. So a system that gives out memory on first use gives it for those
-/// blocks alone, and a first touch or draw in a block takes time for the block.
+/// A page takes two bytes, which are asked for at the start and written in blocks of 256 pages: those of a block in which a page is
+/// touched. So a system that gives out memory on first use gives it for those blocks alone, and a first touch in a block takes time for
+/// the block. Beside them there are two bytes for each class of pages, at most 4096 classes, and four for each draw.
 #[derive(Debug, Drop)]
 pub struct Sampler {
     draws: Draws,
@@ -85,12 +86,12 @@ impl Sampler {
     }
 
     /// Takes note that the guest touched a page.
+    #[inline]
     pub fn touch(&mut self, page: u32)
         requires { page < self.old.size }
         ensures { self.new ≡ with_touch self.old page }
     {
-        if self.touched_in.get(page) != self.number {
-            self.touched_in.set(page, self.number);
+        if self.touched_in.replace(page, self.number) != self.number {
             self.hits += self.draws.count_of(page);
         }
     }

@@ -8,5 +8,5 @@ returns c =
     let inside = c.self.inside in
     let count : c.len.result ≡ length inside.drawn.items = omega (arith, c.len.ensures, inside.drawn.ok.0) in
     count
-    ∙ sym (length-pages_drawn inside.due inside.drawn.items (length inside.draws_of.list))
+    ∙ sym (length-pages_drawn inside.due inside.drawn.items inside.size)
     ∙ ap (λ (d : Drawn). length d.pages) c.self.view_is

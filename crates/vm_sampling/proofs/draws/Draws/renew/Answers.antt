@@ -7,7 +7,7 @@ use Rattle.vm_sampling.proofs.draws.Draws.renew.Goals as goal
 pub returns-clause-pages : goal.returns-clause-pages
 returns-clause-pages c =
     let inside = c.self.inside in
-    let size = length inside.draws_of.list in
+    let size = inside.size in
     let count : length inside.drawn.items ≡ length c.args.self.now.pages =
     sym (length-pages_drawn inside.due inside.drawn.items size) ∙ ap (λ (d : Drawn). length d.pages) c.self.view_is in
     let same : size ≡ c.args.self.now.size = ap (λ (d : Drawn). d.size) c.self.view_is in
@@ -21,6 +21,6 @@ pub returns-clause-words : goal.returns-clause-words
 returns-clause-words c =
     let inside = c.self.inside in
     let count : length inside.drawn.items ≡ length c.args.self.now.pages =
-    sym (length-pages_drawn inside.due inside.drawn.items (length inside.draws_of.list)) ∙ ap (λ (d : Drawn). length d.pages) c.self.view_is in
+    sym (length-pages_drawn inside.due inside.drawn.items inside.size) ∙ ap (λ (d : Drawn). length d.pages) c.self.view_is in
     let used : c.len.result ≡ length c.args.self.now.pages = omega (arith, c.len.ensures, inside.drawn.ok.0, count) in
     c.set_aside.ensures.words ∙ ap (λ n. words_after n c.args.words.now) used
