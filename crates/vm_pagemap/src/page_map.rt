@@ -72,11 +72,10 @@ impl Model for PageMap {
 }
 
 impl PageMap {
-    /// The map of a guest of `size` pages, at most [`PAGE_LIMIT`], all of them absent.
+    /// The map of a guest of `size` pages, all of them absent.
     ///
     /// An error says that memory was refused, which is only where there are pages.
     pub fn new(alloc: Global, size: u32) -> Result<PageMap, AllocError>
-        requires { size ≤ PAGE_LIMIT }
         ensures map { IfOk result (λ m. m ≡ absent_pages size) }
         ensures memory { OnErr result (0 < size) }
     {

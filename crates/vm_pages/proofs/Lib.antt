@@ -7,5 +7,6 @@ mod Outside
 mod WordExtremes
 mod WordLemmas
 mod PlaceLemmas
+mod MarkLemmas
 pub mod PageSets
 pub mod Listings

@@ -1,5 +1,5 @@
 -- How a table keeps its items: what it has after an item is set, and after a block is begun.
-use Rattle.std.proofs.Common.{◌≡◌, ◌≢◌, ℕ, zero, suc, ◌+◌, ◌-◌, ◌*◌, ◌/◌, ◌%◌, ◌<◌, ◌≤◌, ◌++◌, List, [], ◌∷◌, length, set, get_or, replicate, Option, Some, None, refl, sym, ap, ◌∙◌, inl, inr, arith}
+use Rattle.std.proofs.Common.{◌≡◌, ◌≢◌, ℕ, zero, suc, ◌+◌, ◌-◌, ◌*◌, ◌/◌, ◌%◌, ◌^◌, ◌<◌, ◌≤◌, ◌++◌, List, [], ◌∷◌, length, set, get_or, replicate, Option, Some, None, refl, sym, ap, ◌∙◌, inl, inr, arith}
 use Rattle.std.specs.Prelude.{min}
 use Rattle.std.proofs.Math.Nat.{min-le_left, min-le_right}
 use Rattle.std.specs.Option.{unwrap_or}
@@ -34,7 +34,7 @@ items_of-none size first =
     items_of-is size first [] [] (replicate size first) (length-replicate size first)
     (λ page there. sym (get_or-replicate size page first first there))
 
-pub ArePlaces-none : (size : ℕ) → size ≤ 262144 → ArePlaces size [] 0
+pub ArePlaces-none : (size : ℕ) → size < 2 ^ 32 → ArePlaces size [] 0
 ArePlaces-none size few = record {
   few = few;
   reached = omega arith;

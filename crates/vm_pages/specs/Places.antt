@@ -1,5 +1,5 @@
 -- How a table keeps its items: those of a block of 256 pages behind one another, each block in a place of its own.
-use Rattle.std.specs.Prelude.{◌≡◌, ℕ, zero, suc, ◌+◌, ◌-◌, ◌*◌, ◌/◌, ◌%◌, ◌<◌, ◌≤◌, min, List, [], ◌∷◌, length, map, get_or, Option, Some, None}
+use Rattle.std.specs.Prelude.{◌≡◌, ℕ, zero, suc, ◌+◌, ◌-◌, ◌*◌, ◌/◌, ◌%◌, ◌^◌, ◌<◌, min, List, [], ◌∷◌, length, map, get_or, Option, Some, None}
 use Rattle.std.specs.List.{range_with_len}
 
 -- the `k`-th place of a block, if it was written: its number is one more than its first place
@@ -28,7 +28,7 @@ written size (suc start ∷ blocks) = min size 256 + written (size - 256) blocks
 
 -- the items of the blocks that were written fill the places, and no two pages have the same place
 pub record ArePlaces (size : ℕ) (blocks : List ℕ) (places : ℕ) : Type 0 where
-  pub few : size ≤ 262144
+  pub few : size < 2 ^ 32
   pub reached : length blocks * 256 < size + 256
   pub filled : places ≡ written size blocks
   pub within : (page place : ℕ) → page < size → place_of blocks page ≡ Some place → place < places

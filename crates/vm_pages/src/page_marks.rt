@@ -1,33 +1,38 @@
 ghost use Rattle.std.specs.Prelude.{◌≡◌, ◌<◌, ◌≤◌, All, IfOk, OnErr, length, take};
 ghost use Rattle.vm_pages.specs.Pages.{no_pages, contains, insert, insert_all, remove, remove_all};
 
-use crate::words::{WORD_PAGES, is_marked, mark, mark_run, unmark, unmark_run};
+use crate::page_table::PageTable;
+use crate::words::{WORD_PAGES, with_run, without_run};
 use std::alloc::{AllocError, Global};
 use std::marker::Model;
+
+// The pages of a word.
+const MARKS: u32 = WORD_PAGES as u32;
 
 /// Marks on the pages of a guest.
 ///
 /// A contract sees them as a [`PageSet`](crate::PageSet): a list of one flag for each page. They are one bit for each page and
 /// nothing more: they can't be counted or listed, and so a mark is the change of one word alone. No call but
-/// [`PageMarks::new`] takes memory, which it only reserves: a word of it is written when a page of it or of a greater word is
-/// marked. [`PageMarks::insert_all`] and [`PageMarks::remove_all`] take time for their list, and each other call takes constant
-/// time, but for the words that a mark is the first to reach.
+/// [`PageMarks::new`] takes memory, which it only reserves: it is written in blocks of 16384 pages, when a page of one is marked
+/// first. [`PageMarks::insert_all`] and [`PageMarks::remove_all`] take time for their list, and each other call takes constant
+/// time, but for a block of which no page was marked before.
 #[derive(Drop)]
 pub struct PageMarks {
     size: u32,
-    // Up to the last one that was ever changed, in room for all.
-    words: Vec<u64>,
+    // For each 64 pages a word, with a bit for each.
+    words: PageTable<u64>,
 }
 
 impl Model for PageMarks {
-    ghost use Rattle.std.specs.Prelude.{◌*◌, ◌≤◌, List, Bool, vec_capacity};
+    ghost use Rattle.std.specs.Prelude.{List, Bool};
     ghost use Rattle.vm_pages.specs.Words.{marked};
+    ghost use Rattle.vm_pages.specs.PageTable.{AreWords};
 
     ghost Value = { List Bool };
 
-    ghost view = { λ m. marked m.words.items m.size };
+    ghost view = { λ m. marked m.words.list m.size };
 
-    ghost invariant = { λ m. m.size ≤ vec_capacity m.words * 64 };
+    ghost invariant = { λ m. AreWords m.size m.words };
 }
 
 impl PageMarks {
@@ -38,7 +43,7 @@ impl PageMarks {
         ensures marks { IfOk result (λ m. m ≡ no_pages size) }
         ensures memory { OnErr result (0 < size) }
     {
-        let words = Vec::with_capacity(alloc, (size as usize).div_ceil(WORD_PAGES))?;
+        let words = PageTable::new(alloc, size.div_ceil(MARKS), 0)?;
         Ok(PageMarks { size, words })
     }
 
@@ -55,7 +60,9 @@ impl PageMarks {
         ensures after { self.new ≡ insert self.old page }
         ensures size { length self.new ≡ length self.old }
     {
-        mark(&mut self.words, page as usize);
+        let word = page / MARKS;
+        let marks = self.words.get(word) | 1 << (page % MARKS);
+        self.words.set(word, marks);
     }
 
     /// Takes a page's mark away.
@@ -64,7 +71,9 @@ impl PageMarks {
         ensures after { self.new ≡ remove self.old page }
         ensures size { length self.new ≡ length self.old }
     {
-        unmark(&mut self.words, page as usize);
+        let word = page / MARKS;
+        let marks = self.words.get(word) & !(1 << (page % MARKS));
+        self.words.set(word, marks);
     }
 
     /// Marks pages, in time for their list. It is faster where the pages of a word stand behind one another.
@@ -88,7 +97,9 @@ impl PageMarks {
         ensures after { self.new ≡ insert_all self.old (take result pages.now) }
         ensures size { length self.new ≡ length self.old }
     {
-        let (run, _) = mark_run(&mut self.words, pages);
+        let word = pages[0] / MARKS;
+        let (run, marks, _) = with_run(self.words.get(word), word, pages);
+        self.words.set(word, marks);
         run
     }
 
@@ -113,7 +124,9 @@ impl PageMarks {
         ensures after { self.new ≡ remove_all self.old (take result pages.now) }
         ensures size { length self.new ≡ length self.old }
     {
-        let (run, _) = unmark_run(&mut self.words, pages);
+        let word = pages[0] / MARKS;
+        let (run, marks, _) = without_run(self.words.get(word), word, pages);
+        self.words.set(word, marks);
         run
     }
 
@@ -122,6 +135,6 @@ impl PageMarks {
         requires { page < length self.now }
         ensures { result ≡ contains self.now page }
     {
-        is_marked(&self.words, page as usize)
+        self.words.get(page / MARKS) >> (page % MARKS) & 1 == 1
     }
 }

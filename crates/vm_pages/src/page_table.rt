@@ -46,7 +46,6 @@ impl<T: Copy> PageTable<T> {
     ///
     /// An error says that memory was refused, which is only where there are pages.
     pub fn new(alloc: Global, size: u32, first: T) -> Result<Self, AllocError>
-        requires { size ≤ 262144 }
         ensures table { IfOk result (λ t. t ≡ first_items first size) }
         ensures memory { OnErr result (0 < size) }
     {

@@ -114,7 +114,7 @@ pub(crate) fn unmark_run(words: &mut Vec<u64>, pages: &[u32]) -> (usize, usize)
 
 // The marks of a word with those of its pages that a list begins with, all of them before the word is written. Answers how many pages
 // they are, the marks, and how many came.
-fn with_run(marks: u64, word: u32, pages: &[u32]) -> (usize, u64, usize)
+pub(crate) fn with_run(marks: u64, word: u32, pages: &[u32]) -> (usize, u64, usize)
     ensures within { result.0 ≤ length pages.now }
     ensures further { 0 < length pages.now → slice_index pages.now 0 / 64 ≡ word → 0 < result.0 }
     ensures same_word { All (λ page. page / 64 ≡ word) (take result.0 pages.now) }
@@ -136,7 +136,7 @@ fn with_run(marks: u64, word: u32, pages: &[u32]) -> (usize, u64, usize)
 
 // The marks of a word without those of its pages that a list begins with, all of them before the word is written. Answers how many
 // pages they are, the marks that are left, and how many went.
-fn without_run(marks: u64, word: u32, pages: &[u32]) -> (usize, u64, usize)
+pub(crate) fn without_run(marks: u64, word: u32, pages: &[u32]) -> (usize, u64, usize)
     ensures within { result.0 ≤ length pages.now }
     ensures further { 0 < length pages.now → slice_index pages.now 0 / 64 ≡ word → 0 < result.0 }
     ensures same_word { All (λ page. page / 64 ≡ word) (take result.0 pages.now) }

@@ -1,6 +1,8 @@
-use Rattle.std.proofs.Common.{sym}
-use Rattle.vm_pages.proofs.WordLemmas.{read-marked}
+use Rattle.vm_pages.proofs.MarkLemmas.{bit_read, word_there}
 use Rattle.vm_pages.proofs.page_marks.PageMarks.contains.Goals as goal
 
+pub get-requires : goal.get-requires
+get-requires c = word_there c.self.inside.size c.args.page c.self.inside.words c.self.invariant (rw (← c.self.view_is) at c.requires)
+
 pub returns : goal.returns
-returns c = rw (← c.self.view_is) (sym (read-marked _ _ _ _ (rw (← c.self.view_is) at c.requires) (rw c.deref.ensures.value at c.is_marked.ensures)))
+returns c = rw (← c.self.view_is, c.get.ensures) (bit_read c.self.inside.size c.args.page c.self.inside.words c.self.invariant (rw (← c.self.view_is) at c.requires))

@@ -7,7 +7,7 @@ pub invariant_of-result : goal.invariant_of-result
 invariant_of-result g c =
     let blocks = c.in_ok-with_capacity.ensures in
     let items = c.in_ok-with_capacity-2.ensures in
-    (rw (blocks.items, items.items) (ArePlaces-none c.args.size c.requires), omega (arith, items.exact), omega (arith, blocks.exact, c.div_ceil.ensures))
+    (rw (blocks.items, items.items) (ArePlaces-none c.args.size (omega (arith, c.ranges.size.fits))), omega (arith, items.exact), omega (arith, blocks.exact, c.div_ceil.ensures))
 
 pub returns-clause-table : goal.returns-clause-table
 returns-clause-table g c =
