@@ -1,4 +1,4 @@
-ghost use Rattle.std.specs.Prelude.{◌≡◌, ◌+◌, ◌/◌, ◌≤◌, ◌∷◌, [], ◌++◌, length, take, vec_capacity, vec_len};
+ghost use Rattle.std.specs.Prelude.{◌≡◌, ◌+◌, ◌/◌, ◌≤◌, ◌∷◌, [], ◌++◌, length, vec_capacity, vec_len};
 ghost use Rattle.vm_balloon.specs.Room.{KeepsRoom};
 ghost use Rattle.vm_balloon.specs.Service.{ragged};
 ghost use Rattle.vm_balloon.specs.Virtio.{page_numbers};
@@ -16,16 +16,16 @@ pub(crate) fn ragged_count(bytes: &[u8]) -> u32
     if bytes.len() % 4 != 0 { 1 } else { 0 }
 }
 
-/// The page numbers of a page buffer, in the first places.
-pub(crate) fn decode(bytes: &[u8]) -> [u32; MOST_NUMBERS]
-    requires { length bytes.now ≤ 1024 }
-    ensures { take (length bytes.now / 4) result ≡ page_numbers bytes.now }
+/// Adds the page numbers of a page buffer, for which there is room.
+pub(crate) fn append_numbers(bytes: &[u8], numbers: &mut Vec<u32>)
+    requires room { vec_len numbers.old + length bytes.now / 4 ≤ vec_capacity numbers.old }
+    ensures numbers { numbers.new.items ≡ numbers.old.items ++ page_numbers bytes.now }
+    ensures len { vec_len numbers.new ≡ vec_len numbers.old + length bytes.now / 4 }
+    ensures room { KeepsRoom numbers.old numbers.new }
 {
-    let mut numbers = [0; MOST_NUMBERS];
     for i in 0..page_count(bytes) {
-        numbers[i] = page_number(bytes, i);
+        numbers.push_reserved(page_number(bytes, i));
     }
-    numbers
 }
 
 /// Adds items for which there is room, so that it takes no memory.

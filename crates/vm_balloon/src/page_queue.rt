@@ -7,8 +7,7 @@ ghost use Rattle.vm_balloon.specs.Virtio.{page_numbers};
 ghost use Rattle.vm_balloon.specs.Device.{is_named};
 
 use crate::buffers::Buffers;
-use crate::decode::{MOST_NUMBERS, append_within, decode, ragged_count};
-use crate::virtio::page_count;
+use crate::decode::{MOST_NUMBERS, append_numbers, ragged_count};
 use std::alloc::{AllocError, Global};
 use std::marker::Model;
 use vm_pages::PageMarks;
@@ -133,10 +132,9 @@ fn keep_numbers(bytes: &[u8], size: u32, numbers: &mut Vec<u32>, named: &mut Pag
     ensures in_range { OnTrue result (All (λ number. number < size) (page_numbers bytes.now)) }
     ensures room { KeepsRoom numbers.old numbers.new }
 {
-    let places = decode(bytes);
-    let decoded = &places[..page_count(bytes)];
-    append_within(numbers, decoded);
-    mark_all(decoded, size, named)
+    let before = numbers.len();
+    append_numbers(bytes, numbers);
+    mark_all(&numbers[before..], size, named)
 }
 
 // Marks those pages that are the guest's, and says whether all are.

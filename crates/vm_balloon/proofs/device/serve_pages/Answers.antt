@@ -1,4 +1,4 @@
-use Rattle.std.proofs.Common.{ℕ, ◌<◌, length, ap, subst, ◌∙◌}
+use Rattle.std.proofs.Common.{ℕ, ◌<◌, ap, subst, ◌∙◌}
 use Rattle.std.specs.Prelude.{All}
 use Rattle.vm_pages.specs.Pages.{remove_all}
 use Rattle.vm_balloon.specs.Service.{numbers_in, deflated_by}

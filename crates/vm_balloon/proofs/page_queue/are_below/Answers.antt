@@ -1,5 +1,5 @@
-use Rattle.std.proofs.Common.{◌≤◌, length, get_or, sym, subst, arith}
-use Rattle.std.specs.Prelude.{◌<◌, ◌≡◌, All, nat_lt, take, true}
+use Rattle.std.proofs.Common.{◌≤◌, length, get_or, subst, arith}
+use Rattle.std.specs.Prelude.{◌<◌, All, nat_lt}
 use Rattle.std.proofs.lemmas.Bool.{and_parts, ltb-true, OnTrue_from}
 use Rattle.std.proofs.lemmas.List.{take_all}
 use Rattle.std.proofs.lemmas.List.Elements.{All-more}
