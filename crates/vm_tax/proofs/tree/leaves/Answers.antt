@@ -4,7 +4,8 @@ use Rattle.std.proofs.lemmas.List.{get_or_append_left, get_or_default, get_or_pu
 use Rattle.std.proofs.lemmas.Result.{IfOk-from_err}
 use Rattle.vm_tax.specs.declared.price.Price.{Price}
 use Rattle.vm_tax.specs.declared.tree.Contender.{Contender}
-use Rattle.vm_tax.specs.Tree.{leaf_of, node_at}
+use Rattle.vm_tax.specs.declared.tree.Order.{Order}
+use Rattle.vm_tax.specs.Tree.{leaf_of, nobody, node_at}
 use Rattle.vm_tax.proofs.tree.leaves.Goals as goal
 
 any_err : {T E : Type 0} (r : Result T E) (P : Type 0) → P → IfErr r (λ _. P)
@@ -15,17 +16,17 @@ any_err (Err e) P h = h
 some_wanted : (n : ℕ) → (n ≡ 0 → false ≡ true) → 0 < n
 some_wanted n fails = ⊎_elim (λ (e : n ≡ 0). absurd (false≢true (fails e))) (λ (ne : n ≢ 0). omega (arith, ne)) (cases_eq n 0)
 
-blanks : (n m : ℕ) (old : List (Option Contender)) → old ≡ [] → m ≡ 0 → length (take n old ++ replicate {A = Option Contender} (n - m) None) ≡ n
-blanks n m old e none =
-    let empty : length old ≡ 0 = ap (λ (xs : List (Option Contender)). length xs) e in
-    omega (arith, none, empty, length-take n old, length-replicate {A = Option Contender} (n - m) None, length-append (take n old) (replicate {A = Option Contender} (n - m) None))
+blanks : (n m : ℕ) (x : Contender) (old : List Contender) → old ≡ [] → m ≡ 0 → length (take n old ++ replicate {A = Contender} (n - m) x) ≡ n
+blanks n m x old e none =
+    let empty : length old ≡ 0 = ap (λ (xs : List Contender). length xs) e in
+    omega (arith, none, empty, length-take n old, length-replicate {A = Contender} (n - m) x, length-append (take n old) (replicate {A = Contender} (n - m) x))
 
-leaf_more : (prices : List (Option Price)) (nodes : List (Option Contender)) (i : ℕ) (leaf : Option Contender) → length nodes ≡ length prices + i → leaf ≡ leaf_of i (slice_index_or prices i None)
-    → ((k : ℕ) → k < i → node_at nodes (length prices + k) ≡ leaf_of k (slice_index_or prices k None)) → (k : ℕ) → k < i + 1 → node_at (nodes ++ leaf ∷ []) (length prices + k) ≡ leaf_of k (slice_index_or prices k None)
-leaf_more prices nodes i leaf size is before k l =
+leaf_more : (order : Order) (prices : List (Option Price)) (nodes : List Contender) (i : ℕ) (leaf : Contender) → length nodes ≡ length prices + i → leaf ≡ leaf_of order i (slice_index_or prices i None)
+    → ((k : ℕ) → k < i → node_at nodes (length prices + k) ≡ leaf_of order k (slice_index_or prices k None)) → (k : ℕ) → k < i + 1 → node_at (nodes ++ leaf ∷ []) (length prices + k) ≡ leaf_of order k (slice_index_or prices k None)
+leaf_more order prices nodes i leaf size is before k l =
     ⊎_elim
-    (λ (same : k ≡ i). get_or_push nodes leaf None (length prices + k) (omega (arith, size, same)) ∙ subst (λ (j : ℕ). leaf ≡ leaf_of j (slice_index_or prices j None)) (sym same) is)
-    (λ (ne : k ≢ i). get_or_append_left nodes (leaf ∷ []) None (length prices + k) (omega (arith, size, l, ne)) ∙ before k (omega (arith, l, ne)))
+    (λ (same : k ≡ i). get_or_push nodes leaf nobody (length prices + k) (omega (arith, size, same)) ∙ subst (λ (j : ℕ). leaf ≡ leaf_of order j (slice_index_or prices j None)) (sym same) is)
+    (λ (ne : k ≢ i). get_or_append_left nodes (leaf ∷ []) nobody (length prices + k) (omega (arith, size, l, ne)) ∙ before k (omega (arith, l, ne)))
     (cases_eq k i)
 
 pub returns-in_err-nodes : goal.returns-in_err-nodes
@@ -41,7 +42,7 @@ returns-in_err-nodes c =
 
 pub loop-position-init : goal.loop-position-init
 loop-position-init c =
-    let long = ap (λ (xs : List (Option Contender)). length xs) c.in_ok-resize.ensures.items ∙ blanks (length c.args.prices.now) _ c.in_ok-nodes.nodes.items c.in_ok-nodes.ensures.items c.in_ok-nodes.ensures.len in
+    let long = ap (λ (xs : List Contender). length xs) c.in_ok-resize.ensures.items ∙ blanks (length c.args.prices.now) _ _ c.in_ok-nodes.nodes.items c.in_ok-nodes.ensures.items c.in_ok-nodes.ensures.len in
     record {
       size = omega (arith, long);
       leaves = λ k l. absurd (omega (arith, l));
@@ -62,17 +63,18 @@ leaf-requires c = omega (arith, c.requires, c.loop-position-test.true)
 
 pub loop-position-preserved : goal.loop-position-preserved
 loop-position-preserved c =
+    let order = c.args.order in
     let prices = c.args.prices.now in
     let nodes = c.loop-position.nodes.items in
     let i = c.loop-position.position in
     let leaf = c.leaf.result in
     let pushed : c.push.new.self.items ≡ nodes ++ leaf ∷ [] = c.in_ok-push.ensures.items in
     let price = get_or_default prices i c.index-prices-position.result None c.loop-position-test.true in
-    let is : leaf ≡ leaf_of i (slice_index_or prices i None) = c.leaf.ensures ∙ ap (leaf_of i) (c.index-prices-position.is ∙ price) in
+    let is : leaf ≡ leaf_of order i (slice_index_or prices i None) = c.leaf.ensures ∙ ap (leaf_of order i) (c.index-prices-position.is ∙ price) in
     let longer = length_push nodes leaf in
     record {
-      size = ap (λ (xs : List (Option Contender)). length xs) pushed ∙ omega (arith, longer, c.loop-position.invariant.size);
-      leaves = λ k l. ap (λ (xs : List (Option Contender)). node_at xs (length prices + k)) pushed ∙ leaf_more prices nodes i leaf c.loop-position.invariant.size is c.loop-position.invariant.leaves k l;
+      size = ap (λ (xs : List Contender). length xs) pushed ∙ omega (arith, longer, c.loop-position.invariant.size);
+      leaves = λ k l. ap (λ (xs : List Contender). node_at xs (length prices + k)) pushed ∙ leaf_more order prices nodes i leaf c.loop-position.invariant.size is c.loop-position.invariant.leaves k l;
     }
 
 pub returns-in_err-push : goal.returns-in_err-push

@@ -23,7 +23,7 @@ returns-in_err-nodes c = record {
 
 pub decide_all-requires : goal.decide_all-requires
 decide_all-requires c =
-    let long : length c.deref_mut.result.now ≡ 2 * length c.args.prices.now = ap (λ (xs : List (Option Contender)). length xs) c.deref_mut.ensures.value ∙ c.in_ok-nodes.ensures.size in
+    let long : length c.deref_mut.result.now ≡ 2 * length c.args.prices.now = ap (λ (xs : List Contender). length xs) c.deref_mut.ensures.value ∙ c.in_ok-nodes.ensures.size in
     omega (arith, long)
 
 pub returns-in_err-own : goal.returns-in_err-own
@@ -51,7 +51,7 @@ invariant_of-result c =
     let prices = c.args.prices.now in
     let new = c.decide_all.new.nodes in
     let copied = c.in_ok-extend_from_slice.ensures.items ∙ ap (λ (xs : List (Option Price)). xs ++ prices) c.in_ok-own.ensures.items in
-    let made : length c.deref_mut.result.now ≡ 2 * length prices = ap (λ (xs : List (Option Contender)). length xs) c.deref_mut.ensures.value ∙ c.in_ok-nodes.ensures.size in
+    let made : length c.deref_mut.result.now ≡ 2 * length prices = ap (λ (xs : List Contender). length xs) c.deref_mut.ensures.value ∙ c.in_ok-nodes.ensures.size in
     let long : length new ≡ 2 * length prices = c.decide_all.auto.nodes ∙ made in
     let whole = with_items_is c.in_ok-nodes.nodes new (omega (arith, c.decide_all.auto.nodes, c.deref_mut.ensures.len)) in
     let tree : IsTree c.args.order prices new = record {
@@ -59,7 +59,7 @@ invariant_of-result c =
       size = long;
       leaves = λ k l.
           let kept = c.decide_all.ensures.leaves (length prices + k) (omega (arith, made)) in
-          kept ∙ ap (λ (xs : List (Option Contender)). node_at xs (length prices + k)) c.deref_mut.ensures.value ∙ c.in_ok-nodes.ensures.leaves k l;
+          kept ∙ ap (λ (xs : List Contender). node_at xs (length prices + k)) c.deref_mut.ensures.value ∙ c.in_ok-nodes.ensures.leaves k l;
       decided = c.decide_all.ensures.decided;
     } in
-    subst (λ (xs : List (Option Contender)). IsTree c.args.order c.extend_from_slice.new.self.items xs) (sym whole) (subst (λ (xs : List (Option Price)). IsTree c.args.order xs new) (sym copied) tree)
+    subst (λ (xs : List Contender). IsTree c.args.order c.extend_from_slice.new.self.items xs) (sym whole) (subst (λ (xs : List (Option Price)). IsTree c.args.order xs new) (sym copied) tree)
