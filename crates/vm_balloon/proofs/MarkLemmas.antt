@@ -7,7 +7,7 @@ use Rattle.std.proofs.lemmas.List.Sums.{fold-append}
 use Rattle.std.proofs.lemmas.List.{set_past}
 use Rattle.std.proofs.lemmas.Grind.{flat_map-append}
 use Rattle.vm_pages.specs.Pages.{no_pages, contains, insert, remove, insert_all, remove_all}
-use Rattle.vm_pages.proofs.PageSets.{same_pages, lt-length, length-insert, length-remove_all, length-insert_all, length-no_pages, contains-no_pages, contains-insert_same, contains-insert_other, contains-remove_same, contains-remove_other, contains-remove_all_before}
+use Rattle.vm_pages.proofs.PageSets.{same_pages, lt-length, length-insert, length-remove_all, length-insert_all, length-no_pages, contains-no_pages, contains-insert_same, contains-insert_other, contains-remove_same, contains-remove_all_before}
 use Rattle.vm_balloon.specs.Virtio.{page_numbers}
 use Rattle.vm_balloon.specs.Service.{numbers_in}
 
@@ -52,20 +52,6 @@ contains-remove_all_gone pages (first ∷ removed) page listed = elim (cases_eq 
   | inr other ↦
       let unnamed : (first == page) ≡ false = ne_eqb first page (λ e. other (sym e)) in
       contains-remove_all_gone (remove pages first) removed page (rw unnamed at listed)
-]
-
--- a page that the list doesn't have stays as it is
-pub contains-remove_all_other : (pages : List Bool) (removed : List ℕ) (page : ℕ) → list_any (λ number. number == page) removed ≡ false
-    → contains (remove_all pages removed) page ≡ contains pages page
-contains-remove_all_other pages [] page unlisted = refl
-contains-remove_all_other pages (first ∷ removed) page unlisted = elim (cases_eq page first) [
-  | inl same ↦
-      let named : (first == page) ≡ true = eq-eqb first page (sym same) in
-      let wrong : true ≡ false = rw named at unlisted in
-      absurd (cc)
-  | inr other ↦
-      let unnamed : (first == page) ≡ false = ne_eqb first page (λ e. other (sym e)) in
-      contains-remove_all_other (remove pages first) removed page (rw unnamed at unlisted) ∙ contains-remove_other pages first page other
 ]
 
 -- a set is empty once each page that it may have is taken out

@@ -97,6 +97,13 @@ impl PageQueue {
         &self.numbers
     }
 
+    /// Whether it is known that each of these page numbers is one of the guest's.
+    pub(crate) fn in_range(&self) -> bool
+        ensures { OnTrue result (All (λ number. number < self.now.size) (numbers_in self.now.buffers)) }
+    {
+        self.in_range
+    }
+
     /// How many of the buffers end in bytes that are no page number.
     pub(crate) fn ragged(&self) -> u32
         ensures value { result ≡ ragged self.now.buffers }

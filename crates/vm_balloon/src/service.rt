@@ -1,10 +1,9 @@
-ghost use Rattle.std.specs.Prelude.{◌≡◌, ◌+◌, ◌<◌, ◌≤◌, [], ◌∷◌, ◌++◌, false, All, filter, length, vec_len};
+ghost use Rattle.std.specs.Prelude.{◌≡◌, ◌+◌, ◌<◌, ◌≤◌, [], ◌∷◌, ◌++◌, true, false, All, length, vec_len};
 ghost use Rattle.std.specs.Bool.{OnTrue, OnFalse};
 ghost use Rattle.std.specs.Vec.{vec_capacity};
 ghost use Rattle.vm_balloon.specs.Room.{HasRoomFor, KeepsRoom};
 ghost use Rattle.vm_pages.specs.Pages.{no_pages, insert, remove, insert_all, remove_all};
-ghost use Rattle.vm_balloon.specs.Absent.{AreAbsent};
-ghost use Rattle.vm_balloon.specs.Service.{distinct, numbers_in, refused, can_inflate, can_deflate, inflated_by, deflated_by};
+ghost use Rattle.vm_balloon.specs.Service.{numbers_in, refused, can_inflate, can_deflate, inflated_by, deflated_by};
 ghost use Rattle.vm_balloon.specs.DeviceFields.{AreListed};
 
 use crate::decode::append_within;
@@ -37,8 +36,9 @@ pub(crate) fn serve_inflates(
         return 0;
     }
     let size = inflates.size();
+    let in_range = inflates.in_range();
     let numbers = inflates.numbers();
-    inflate(numbers, size, balloon, inflated);
+    inflate(numbers, size, in_range, balloon, inflated);
     let bad = inflates.ragged() + (numbers.len() - inflated.len()) as u32;
     inflates.clear();
     bad
@@ -80,10 +80,17 @@ pub(crate) fn serve_deflates(
     bad
 }
 
-// Puts pages into the balloon of a guest of `size` pages, and lists those that were not in it yet. They go in together, and alone only
-// where one of them came twice.
-fn inflate(numbers: &[u32], size: u32, balloon: &mut PageSet, inflated: &mut Vec<u32>)
+// Puts pages into the balloon of a guest of `size` pages, and lists those that were not in it yet. They go in together, and one by one
+// only where one of them can't come in, or comes twice.
+fn inflate(
+    numbers: &[u32],
+    size: u32,
+    in_range: bool,
+    balloon: &mut PageSet,
+    inflated: &mut Vec<u32>,
+)
     requires size { length balloon.old ≡ size }
+    requires in_range { in_range ≡ true → All (λ number. number < size) numbers.now }
     requires room { length numbers.now ≤ vec_capacity inflated.old }
     ensures inflated { inflated.new.items ≡ inflated_by balloon.old numbers.now }
     ensures pages { All (λ page. page < length balloon.old) inflated.new.items }
@@ -92,69 +99,25 @@ fn inflate(numbers: &[u32], size: u32, balloon: &mut PageSet, inflated: &mut Vec
     ensures no_more { vec_len inflated.new ≤ length numbers.now }
     ensures room { KeepsRoom inflated.old inflated.new }
 {
-    list_acceptable(numbers, size, balloon, inflated);
-    if insert_different(inflated, balloon) {
+    if inflate_all(numbers, in_range, balloon) {
+        inflated.clear();
+        append_within(inflated, numbers);
         return;
     }
     inflate_each(numbers, size, balloon, inflated);
 }
 
-// Puts pages in that are not there, if no two of them are the same, and says whether it did.
-fn insert_different(pages: &[u32], balloon: &mut PageSet) -> bool
-    requires within { All (λ page. page < length balloon.old) pages.now }
-    requires absent { AreAbsent balloon.old pages.now }
-    ensures different { OnTrue result (distinct pages.now ≡ pages.now) }
-    ensures put { OnTrue result (balloon.new ≡ insert_all balloon.old pages.now) }
+// Puts pages into the balloon if they are known to be the guest's, none of them is in it and no two are the same, and says whether it
+// did.
+fn inflate_all(numbers: &[u32], in_range: bool, balloon: &mut PageSet) -> bool
+    requires { in_range ≡ true → All (λ number. number < length balloon.old) numbers.now }
+    ensures inflated { OnTrue result (inflated_by balloon.old numbers.now ≡ numbers.now) }
+    ensures pages { OnTrue result (All (λ page. page < length balloon.old) numbers.now) }
+    ensures put { OnTrue result (balloon.new ≡ insert_all balloon.old numbers.now) }
     ensures same { OnFalse result (balloon.new ≡ balloon.old) }
+    ensures same_pages { length balloon.new ≡ length balloon.old }
 {
-    let before = balloon.len() as usize;
-    balloon.insert_all(pages);
-    if balloon.len() as usize == before + pages.len() {
-        return true;
-    }
-    balloon.remove_all(pages);
-    false
-}
-
-// Lists the pages that are the guest's and not in the balloon, in order, each as often as it comes.
-fn list_acceptable(numbers: &[u32], size: u32, balloon: &PageSet, pages: &mut Vec<u32>)
-    requires size { length balloon.now ≡ size }
-    requires room { length numbers.now ≤ vec_capacity pages.old }
-    ensures pages { pages.new.items ≡ filter (can_inflate balloon.now) numbers.now }
-    ensures no_more { vec_len pages.new ≤ length numbers.now }
-    ensures room { KeepsRoom pages.old pages.new }
-{
-    pages.clear();
-    if are_acceptable(numbers, size, balloon) {
-        append_within(pages, numbers);
-        return;
-    }
-    for &page in numbers {
-        if is_acceptable(page, size, balloon) {
-            push_within(pages, page);
-        }
-    }
-}
-
-// Whether all pages are the guest's and not in the balloon.
-fn are_acceptable(numbers: &[u32], size: u32, balloon: &PageSet) -> bool
-    requires { length balloon.now ≡ size }
-    ensures { OnTrue result (filter (can_inflate balloon.now) numbers.now ≡ numbers.now) }
-{
-    for &page in numbers {
-        if !is_acceptable(page, size, balloon) {
-            return false;
-        }
-    }
-    true
-}
-
-// Whether a page is the guest's and not in the balloon.
-fn is_acceptable(page: u32, size: u32, balloon: &PageSet) -> bool
-    requires { length balloon.now ≡ size }
-    ensures { result ≡ can_inflate balloon.now page }
-{
-    page < size && !balloon.contains(page)
+    in_range && balloon.insert_all_if_new(numbers)
 }
 
 // Puts pages into the balloon one by one, and lists those that were not in it yet.

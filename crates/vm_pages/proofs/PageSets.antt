@@ -1,8 +1,10 @@
 -- For callers: a set of pages after a change, and how many pages it has.
-use Rattle.std.proofs.Common.{◌≡◌, ◌≢◌, ℕ, zero, suc, ◌+◌, ◌<◌, ◌≤◌, Bool, true, false, not, ◌||◌, cond, List, [], ◌∷◌, Option, Some, None, length, set, refl, sym, ap, ◌∙◌, inl, inr, arith}
-use Rattle.std.proofs.lemmas.List.{length-set, length-replicate, set-get_or, get_or_past, get_or-set_same, get_or-set_other, get_or-replicate}
+use Rattle.std.proofs.Common.{◌≡◌, ◌≢◌, ℕ, zero, suc, ◌+◌, ◌<◌, ◌≤◌, Bool, true, false, not, ◌||◌, cond, List, [], ◌∷◌, Option, Some, None, drop, length, set, take, refl, sym, ap, ◌∙◌, inl, inr, arith}
+use Rattle.std.specs.Prelude.{All}
+use Rattle.std.proofs.lemmas.List.{length-drop, take-append-drop, length-set, length-replicate, set-get_or, get_or_past, get_or-set_same, get_or-set_other, get_or-replicate}
 use Rattle.std.proofs.lemmas.Bool.{cases_eq, cases_lt}
-use Rattle.std.proofs.lemmas.List.Sums.{sum_by-cons, sum_by-set, count_by-le-length}
+use Rattle.std.proofs.lemmas.List.Elements.{All-drop, All-head, All-tail}
+use Rattle.std.proofs.lemmas.List.Sums.{fold-append, sum_by-cons, sum_by-set, count_by-le-length}
 use Rattle.vm_pages.specs.Pages.{no_pages, all_pages, contains, insert, remove, insert_all, remove_all, neither, without, count}
 
 -- a change keeps the guest's size
@@ -183,3 +185,75 @@ apart-insert pages others page apart absent p there =
       | inl same ↦ rw same absent
       | inr differs ↦ apart p (sym (contains-insert_other others page p differs) ∙ there)
     ]
+
+-- the other pages of a list are still the guest's
+pub within-insert : (pages : List Bool) (first : ℕ) (added : List ℕ) → All (λ page. page < length pages) (first ∷ added)
+    → All (λ page. page < length (insert pages first)) added
+within-insert pages first added within = rw (length-insert pages first) (All-tail (λ page. page < length pages) first added within)
+
+-- a page more at most
+count-insert-le : (pages : List Bool) (page : ℕ) → page < length pages → count (insert pages page) ≤ count pages + 1
+count-insert-le pages page within =
+    let by_flag : (b : Bool) → contains pages page ≡ b → count (insert pages page) ≤ count pages + 1 =
+    λ b. elim b as (λ v. contains pages page ≡ v → count (insert pages page) ≤ count pages + 1) [
+      | true ↦ λ there. let same = ap count (insert-contained pages page there) in omega (arith, same)
+      | false ↦ λ absent. let one = count-insert pages page within absent in omega (arith, one)
+    ] in
+    by_flag (contains pages page) refl
+
+-- as many pages more at most as are listed
+pub count-insert_all-le : (pages : List Bool) (added : List ℕ) → All (λ page. page < length pages) added → count (insert_all pages added) ≤ count pages + length added
+count-insert_all-le pages [] within = omega arith
+count-insert_all-le pages (first ∷ added) within =
+    let one = count-insert-le pages first (All-head (λ page. page < length pages) first added within) in
+    let rest = count-insert_all-le (insert pages first) added (within-insert pages first added within) in
+    omega (arith, one, rest)
+
+-- a list in two parts
+pub insert_all-parts : (pages : List Bool) (added : List ℕ) (n : ℕ) → insert_all (insert_all pages (take n added)) (drop n added) ≡ insert_all pages added
+insert_all-parts pages added n = sym (fold-append insert pages (take n added) (drop n added)) ∙ ap (insert_all pages) (take-append-drop n added)
+
+-- where the first of them bring fewer pages than they are, so do all
+pub count-insert_all-short : (pages : List Bool) (added : List ℕ) (n : ℕ) → All (λ page. page < length pages) added → n ≤ length added
+    → count (insert_all pages (take n added)) < count pages + n → count (insert_all pages added) < count pages + length added
+count-insert_all-short pages added n within few short =
+    let first = insert_all pages (take n added) in
+    let others : All (λ page. page < length first) (drop n added) = rw (length-insert_all pages (take n added)) (All-drop (λ page. page < length pages) n added within) in
+    omega (arith, short, few, count-insert_all-le first (drop n added) others, ap count (insert_all-parts pages added n), length-drop n added)
+
+-- where each page of a list counts, the first one was not there
+pub absent-first : (pages : List Bool) (first : ℕ) (added : List ℕ) → All (λ page. page < length pages) (first ∷ added)
+    → count (insert_all pages (first ∷ added)) ≡ count pages + length (first ∷ added) → contains pages first ≡ false
+absent-first pages first added within grown =
+    let by_flag : (b : Bool) → contains pages first ≡ b → b ≡ false =
+    λ b. elim b as (λ v. contains pages first ≡ v → v ≡ false) [
+      | true ↦ λ there.
+          let same = ap count (insert-contained pages first there) in
+          let most = count-insert_all-le (insert pages first) added (within-insert pages first added within) in
+          absurd (omega (arith, grown, same, most))
+      | false ↦ λ absent. refl
+    ] in
+    by_flag (contains pages first) refl
+
+-- removals in another order
+remove-swap : (pages : List Bool) (a b : ℕ) → remove (remove pages a) b ≡ remove (remove pages b) a
+remove-swap [] a b = refl
+remove-swap (page ∷ pages) zero zero = refl
+remove-swap (page ∷ pages) zero (suc b) = refl
+remove-swap (page ∷ pages) (suc a) zero = refl
+remove-swap (page ∷ pages) (suc a) (suc b) = ap (λ rest. page ∷ rest) (remove-swap pages a b)
+
+remove-last : (pages : List Bool) (removed : List ℕ) (page : ℕ) → remove_all (remove pages page) removed ≡ remove (remove_all pages removed) page
+remove-last pages [] page = refl
+remove-last pages (first ∷ removed) page =
+    ap (λ set. remove_all set removed) (remove-swap pages page first) ∙ remove-last (remove pages first) removed page
+
+-- pages that were not there come and go
+pub remove_all-insert_all : (pages : List Bool) (added : List ℕ) → All (λ page. page < length pages) added
+    → count (insert_all pages added) ≡ count pages + length added → remove_all (insert_all pages added) added ≡ pages
+remove_all-insert_all pages [] within grown = refl
+remove_all-insert_all pages (first ∷ added) within grown =
+    let absent = absent-first pages first added within grown in
+    let one = count-insert pages first (All-head (λ page. page < length pages) first added within) absent in
+    let rest = remove_all-insert_all (insert pages first) added (within-insert pages first added within) (omega (arith, grown, one)) in
+    remove-last (insert_all (insert pages first) added) added first ∙ ap (λ set. remove set first) rest ∙ remove-insert pages first absent

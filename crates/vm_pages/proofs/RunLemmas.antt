@@ -3,12 +3,13 @@ use Rattle.std.proofs.Common.{◌≡◌, ℕ, ◌+◌, ◌-◌, ◌/◌, ◌%◌
 use Rattle.std.specs.Prelude.{All}
 use Rattle.std.specs.Int.{bit_at}
 use Rattle.std.proofs.lemmas.List.{length-set, set-set, set-get_or, get_or_read, get_or-set_same}
-use Rattle.std.proofs.lemmas.List.Elements.{All-head, All-tail}
+use Rattle.std.proofs.lemmas.List.Elements.{All-head, All-tail, All-take}
 use Rattle.std.proofs.lemmas.List.Sums.{sum_by-set}
 use Rattle.std.proofs.lemmas.Nat.Bits.{bit_at-lt}
 use Rattle.vm_pages.specs.Pages.{contains, count, insert, insert_all, remove, remove_all}
 use Rattle.vm_pages.specs.Words.{marked}
 use Rattle.vm_pages.specs.Runs.{bits_gained, bits_lost, with_bit, with_bits, without_bit, without_bits}
+use Rattle.vm_pages.proofs.PageSets.{count-insert_all-le, count-insert_all-short}
 use Rattle.vm_pages.proofs.WordLemmas.{contains-marked, length-grown, length-marked, marked-grown, marked-insert, marked-remove, remove-past}
 
 -- one more page comes, or goes
@@ -123,6 +124,25 @@ pub record RunIn (words new run : List ℕ) (n : ℕ) : Type 0 where
 pub record RunOut (words new run : List ℕ) (n : ℕ) : Type 0 where
   pub after : (size : ℕ) → marked new size ≡ remove_all (marked words size) run
   pub lost : (size : ℕ) → All (λ page. page < size) run → count (marked new size) + n ≡ count (marked words size)
+
+-- where no fewer pages came than the run has, each of them is new
+pub run_new : (words new run : List ℕ) (gained size : ℕ) → RunIn words new run gained → length run ≤ gained → All (λ page. page < size) run
+    → count (marked new size) ≡ count (marked words size) + length run
+run_new words new run gained size came all in_range =
+    omega (
+      arith,
+      all,
+      came.gained size in_range,
+      ap count (came.after size),
+      count-insert_all-le (marked words size) run (rw (length-marked words size) in_range),
+    )
+
+-- where fewer came, a list that begins with them has one that is not
+pub run_short : (words new pages : List ℕ) (n gained size : ℕ) → RunIn words new (take n pages) gained → n ≤ length pages → gained < n → All (λ page. page < size) pages
+    → count (insert_all (marked words size) pages) < count (marked words size) + length pages
+run_short words new pages n gained size came within fewer in_range =
+    count-insert_all-short (marked words size) pages n (rw (length-marked words size) in_range) within
+    (omega (arith, fewer, ap count (came.after size), came.gained size (All-take (λ page. page < size) n pages in_range)))
 
 -- where the words have to reach further, and the word was read
 pub grown_in : (words : List ℕ) (n word read marks gained : ℕ) (run : List ℕ) → word < length words + n → read ≡ get_or (words ++ replicate n 0) word read

@@ -3,9 +3,10 @@
 //!
 //! **Proved**: the exact result and set after each call (`added`, `removed`, `after`, `size`, `listed`, `in_range`, `there`).
 //! `list_greatest` and `list_least` give the greatest or least pages in order, in room that is there, and `list_greatest_outside`
-//! the greatest ones that neither of two sets has; `insert_all` and `remove_all` take each page of a list, in any order (`after`).
-//! A set keeps a bit for each page, in words that reach no further than the pages that ever came in, and finds its k-th through
-//! counts of blocks of 2048 pages. The exact item that a table gives for a page, and the table after each call (`PageTable`).
+//! the greatest ones that neither of two sets has; `insert_all` and `remove_all` take each page of a list, in any order (`after`),
+//! and `insert_all_if_new` adds all of them or none (`all_new`, `added`, `same`). A set keeps a bit for each page, in words that
+//! reach no further than the pages that ever came in, and finds its k-th through counts of blocks of 2048 pages. The exact item
+//! that a table gives for a page, and the table after each call (`PageTable`).
 //!
 //! **Only tested**: that `new` and `all` succeed where memory is there. **Not claimed**: speed, and that the counts and blocks are
 //! there. For callers: `proofs/PageSets`, `Listings`.

@@ -90,6 +90,31 @@ pub(crate) fn mark_run(words: &mut Vec<u64>, pages: &[u32]) -> (usize, usize)
     (run, gained)
 }
 
+// Marks those pages that a list begins with and that are of one word, if none of them is marked and no two are the same, and answers how
+// many they are. Else it marks none, and answers 0.
+pub(crate) fn mark_new_run(words: &mut Vec<u64>, pages: &[u32]) -> usize
+    requires some { 0 < length pages.now }
+    requires room { slice_index pages.now 0 / 64 < vec_capacity words.old }
+    ensures within { result ≤ length pages.now }
+    ensures same_word { All (λ page. page / 64 ≡ slice_index pages.now 0 / 64) (take result pages.now) }
+    ensures after { (size : ℕ) → marked words.new.items size ≡ insert_all (marked words.old.items size) (take result pages.now) }
+    ensures gained { (size : ℕ) → All (λ page. page < size) (take result pages.now)
+        → count (marked words.new.items size) ≡ count (marked words.old.items size) + result }
+    ensures not_new { (size : ℕ) → All (λ page. page < size) pages.now → result ≡ 0
+        → count (insert_all (marked words.old.items size) pages.now) < count (marked words.old.items size) + length pages.now }
+    ensures room { vec_capacity words.old ≤ vec_capacity words.new }
+{
+    let word = pages[0] / WORD_PAGES as u32;
+    let at = word as usize;
+    reach(words, at);
+    let (run, marks, gained) = with_run(words[at], word, pages);
+    if gained < run {
+        return 0;
+    }
+    words[at] = marks;
+    run
+}
+
 // Takes the marks of those pages away that a list begins with and that are of one word, or of one page past the words, which has none.
 // Answers how many pages they are, and how many were marked.
 pub(crate) fn unmark_run(words: &mut Vec<u64>, pages: &[u32]) -> (usize, usize)
