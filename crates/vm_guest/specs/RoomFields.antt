@@ -1,5 +1,5 @@
 -- What the fields of a guest's room show, and what is true of them.
-use Rattle.std.specs.Prelude.{length}
+use Rattle.std.specs.Prelude.{◌≡◌, length}
 use Rattle.vm_guest.specs.declared.room.GuestRoom.TheInside.{Inside}
 use Rattle.vm_guest.specs.Room.{RoomView, IsMemoryRoom, IsRoomOf}
 
@@ -14,3 +14,5 @@ room_of g = record {
 pub record IsGuestRoom (g : Inside) : Type 0 where
   pub room : IsRoomOf (room_of g) g.room
   pub memory : IsMemoryRoom g.memory
+  -- its sampler draws of as many pages
+  pub sampled : g.room.sampler.size ≡ length g.memory.pages

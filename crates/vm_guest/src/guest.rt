@@ -6,7 +6,7 @@ ghost use Rattle.vm_guest.specs.Frames.{GivesOut, GivesOutSome, TakesBack, Takes
 ghost use Rattle.vm_guest.specs.Good.{HasNothingPosted};
 ghost use Rattle.vm_guest.specs.Memory.{bytes_of};
 ghost use Rattle.vm_guest.specs.Record.{reserve, steps_left};
-ghost use Rattle.vm_guest.specs.Room.{room_for};
+ghost use Rattle.vm_guest.specs.Room.{room_for, Serves};
 ghost use Rattle.vm_guest.specs.Start.{started};
 ghost use Rattle.vm_guest.specs.State.{state_epoch, with_guest, IsBacked};
 ghost use Rattle.vm_guest.specs.View.{view_of};
@@ -31,7 +31,7 @@ use vm_frames::{Frame, Machine, PAGE_BYTES};
 /// A contract sees it as a `GuestState`: its record, which is plain data, how many pages its swap area has room for, the numbers
 /// of the frames that it holds, and whether it is prepared for an epoch. Pages and frames have 4096 bytes.
 ///
-/// Only [`GuestRoom::new`], [`Guest::start`], [`Guest::prepare`] and [`Guest::grow_swap`] take memory.
+/// Only [`GuestRoom::new`], [`GuestRoom::fit`], [`Guest::start`], [`Guest::prepare`] and [`Guest::grow_swap`] take memory.
 pub struct Guest {
     // There is room for the reads of an epoch.
     prepared: bool,
@@ -367,24 +367,21 @@ impl Guest {
         ensures frames { TakesBack machine.old machine.new self.frames }
         ensures count { set.len machine.new.out + self.guest.memory.held ≡ set.len machine.old.out }
     {
-        let Guest { parts, prepared: _ } = self;
-        let GuestParts {
-            spec,
-            allotment: _,
-            memory,
-            used,
-            device,
-            sampler,
-            words: _,
-            used_early,
-            reads,
-            counts: _,
-            progress: _,
-            draft,
-        } = parts;
-        // By one call: each part's own drop written out here would be dear to check.
-        drop((used, device, sampler, used_early, reads, draft));
-        memory.close(machine);
+        let (spec, room) = self.stop_keeping(machine);
+        drop(room);
         spec
+    }
+
+    /// Ends the guest as [`Guest::stop`] does, and keeps its room, which serves a guest of as many pages and samples. It takes no
+    /// memory, and time for what the guest had touched, ballooned and posted, not for its size but for a count for each 2048 pages.
+    pub fn stop_keeping(self, machine: &mut Machine) -> (GuestSpec, GuestRoom)
+        requires { IsTrue (set.is_subset self.frames machine.old.out) }
+        ensures spec { result.0 ≡ self.guest.config }
+        ensures room { Serves result.1 self.guest.config }
+        ensures frames { TakesBack machine.old machine.new self.frames }
+        ensures count { set.len machine.new.out + self.guest.memory.held ≡ set.len machine.old.out }
+    {
+        let Guest { parts, prepared: _ } = self;
+        GuestRoom::left_by(parts, machine)
     }
 }

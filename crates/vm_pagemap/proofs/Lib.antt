@@ -1,3 +1,4 @@
+mod AbsentPages
 pub mod Resident
 pub mod Places
 pub mod FramesUnder

@@ -1,4 +1,4 @@
-ghost use Rattle.std.specs.Prelude.{◌≡◌, ℕ, ◌+◌, ◌<◌, ◌≤◌, length, slice_range, slice_set, slice_index, unwrap_or, None, IfNone, IfSome, IfOk, OnErr};
+ghost use Rattle.std.specs.Prelude.{◌≡◌, ℕ, ◌+◌, ◌<◌, ◌≤◌, ◌↔◌, IsTrue, length, slice_range, slice_set, slice_index, unwrap_or, None, IfNone, IfSome, IfOk, OnErr};
 ghost use Rattle.std.specs.FinMap as slots;
 ghost use Rattle.vm_swap.specs.Area.{zero_bytes};
 ghost use Rattle.vm_pages.specs.Pages.{count, members};
@@ -212,6 +212,13 @@ impl PageMap {
         ensures { self.new ≡ slice_set self.old page Absent }
     {
         self.out.remove(page);
+    }
+
+    /// Whether all pages are absent.
+    pub fn is_absent(&self) -> bool
+        ensures { IsTrue result ↔ (self.now ≡ absent_pages (length self.now)) }
+    {
+        self.resident.is_empty() && self.out.is_empty()
     }
 
     /// How many pages are in.

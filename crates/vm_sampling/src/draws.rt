@@ -70,6 +70,13 @@ impl Draws {
         self.drawn.len()
     }
 
+    // How many pages the guest has.
+    pub(crate) fn size(&self) -> u32
+        ensures { result ≡ self.now.size }
+    {
+        self.size
+    }
+
     // Draws as many pages for the next period.
     pub(crate) fn renew(&mut self, words: &mut Words)
         ensures pages { self.new ≡ record { pages = draws (length self.old.pages) self.old.size words.old; size = self.old.size } }

@@ -85,6 +85,37 @@ impl Sampler {
         })
     }
 
+    /// The sampler begins anew for another guest of as many pages, which has as many of them drawn: it becomes what [`Sampler::new`]
+    /// makes, and as many words are used. It takes no memory, and constant time.
+    pub fn restart(&mut self, period: u32, words: &mut Words)
+        requires { (1 ≤ period) × (period ≤ 1000000) }
+        ensures sampler { self.new ≡ sampler_of self.old.n period self.old.size words.old }
+        ensures words { words.new ≡ words_after self.old.n words.old }
+    {
+        self.touched_in.clear();
+        self.number = 1;
+        self.hits = 0;
+        self.period = period;
+        self.steps = 0;
+        self.slow = WHOLE;
+        self.fast = WHOLE;
+        self.draws.renew(words);
+    }
+
+    /// How many pages are drawn for each period.
+    pub fn draws(&self) -> u32
+        ensures { result ≡ self.now.n }
+    {
+        self.draws.len() as u32
+    }
+
+    /// How many pages the guest has.
+    pub fn size(&self) -> u32
+        ensures { result ≡ self.now.size }
+    {
+        self.draws.size()
+    }
+
     /// Takes note that the guest touched a page.
     #[inline]
     pub fn touch(&mut self, page: u32)

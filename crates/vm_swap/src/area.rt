@@ -94,6 +94,15 @@ impl SwapArea {
         Ok(())
     }
 
+    /// Leaves room for no more than so many pages. The memory behind it stays, for [`SwapArea::grow`].
+    pub fn lower_to(&mut self, slots: u32)
+        requires fewer { slots ≤ self.old.capacity }
+        requires room { map.len self.old.pages ≤ slots }
+        ensures { self.new ≡ record self.old { capacity = slots } }
+    {
+        self.capacity = slots;
+    }
+
     /// Swaps a page out: copies its bytes into the area, where it must not be yet.
     pub fn put(&mut self, page: u32, bytes: &[u8])
         requires in_range { page < PAGE_LIMIT }

@@ -1,4 +1,5 @@
 use Rattle.std.proofs.Common.{◌≡◌, ◌-◌, length, subst, sym, ap, ◌∙◌}
+use Rattle.vm_sampling.specs.Sampling.{Sampling}
 use Rattle.vm_guest.specs.declared.room.GuestRoom.TheInside.{Inside}
 use Rattle.vm_guest.specs.Config.{GuestConfig}
 use Rattle.vm_guest.specs.Room.{RoomView, IsRoomOf, room_for}
@@ -17,6 +18,7 @@ invariant_of-result c =
     record {
       room = subst (λ (v : RoomView). IsRoomOf v c.in-Ok.room) (sym (room-view c.args.spec.now i c.in-Ok.ensures size slots)) c.in-Ok.ensures;
       memory = memory.room;
+      sampled = ap (λ (t : Sampling). t.size) c.in-Ok.ensures.sampling ∙ sym size;
     }
 
 pub returns-in-Ok : goal.returns-in-Ok
