@@ -1,7 +1,7 @@
 // How command lines are obeyed.
 ghost use Rattle.std.specs.Prelude.{◌≡◌, ◌*◌, ◌<◌, ◌≤◌, IfOk, OnErr, OnOk, None, length, map, string_bytes};
 ghost use Rattle.vm_pool.specs.Changes.{started_at, with_min_at};
-ghost use Rattle.vm_pool.specs.Pool.{guest_at};
+ghost use Rattle.vm_pool.specs.Pool.{guest_at, IsRoomAt};
 ghost use Rattle.vm_reclaim.specs.Making.{CanRaise, HasRoomToRaise, HasRoomToStart};
 ghost use Rattle.vm_reclaim.specs.Policy.{policy_of};
 ghost use Rattle.vm_reclaim.specs.Room.{lacking_at, needed_to_start, raise_to, room_made, revocations_for_room};
@@ -21,6 +21,7 @@ use crate::parts::{Parts, page_of, tax_of};
 use std::alloc::{AllocError, Global};
 use vm_admission::Books;
 use vm_commands::{Command, LineFault, parse_line};
+use vm_guest::GuestRoom;
 use vm_plan::Plan;
 use vm_pool::Pool;
 use vm_reclaim::{Raise, make_room};
@@ -51,7 +52,31 @@ fn start(alloc: Global, tax: u32, pool: &mut Pool, position: usize) -> Result<Pl
     ensures unchanged { OnErr result (pool.new ≡ pool.old) }
     ensures setup { HasSameSetup pool.old pool.new }
 {
-    let room = pool.room_to_start(alloc, position)?;
+    let room = pool.take_room(alloc, position)?;
+    let plan = start_in(alloc, tax, pool, position, room)?;
+    Ok(plan)
+}
+
+// The same in a room that is for the guest, which is let go where memory is refused.
+fn start_in(
+    alloc: Global,
+    tax: u32,
+    pool: &mut Pool,
+    position: usize,
+    room: GuestRoom,
+) -> Result<Plan, AllocError>
+    requires sound { IsSoundPool pool.old }
+    requires tax { tax ≤ 9999 }
+    requires overhead { pool.old.overhead ≤ 1024 }
+    requires within { position < length pool.old.guests }
+    requires stopped { guest_at pool.old position ≡ None }
+    requires room { IsRoomAt pool.old position room }
+    requires enough { HasRoomToStart (hundredths tax) pool.old position }
+    ensures done { OnOk result (pool.new ≡ started_at (room_made (hundredths tax) None (needed_to_start pool.old position) pool.old) position) }
+    ensures plan { IfOk result (λ plan. plan ≡ revocations_for_room (hundredths tax) None (needed_to_start pool.old position) pool.old) }
+    ensures unchanged { OnErr result (pool.new ≡ pool.old) }
+    ensures setup { HasSameSetup pool.old pool.new }
+{
     let needed = needed_to_start(pool, position);
     let plan = make_room(alloc, tax, pool, None, needed)?;
     pool.start(position, room);

@@ -153,6 +153,21 @@ pool-moved p i was slot middle after aside wanted good m same_room =
       home = let home = good.home in omega (arith, home, long);
     }
 
+-- a shelf may have any rooms
+pub pool-shelved : (p : Inside) (shelf : Vec RoomView) → IsPool p → IsPool (record p { shelf = shelf })
+pool-shelved p shelf good = record {
+  few = good.few;
+  fits = good.fits;
+  within = good.within;
+  settled = good.settled;
+  owners = good.owners;
+  held = good.held;
+  aside = good.aside;
+  room = good.room;
+  no_specs = good.no_specs;
+  home = good.home;
+}
+
 -- what it shows
 pub view-moved : (p : Inside) (i : ℕ) (was slot : Slot) (middle after : MachineView) (aside : Vec FrameView) (wanted : Option GuestRecord) (free : ℕ)
     → MovesAt p i was slot middle after aside.items wanted → p.machine.total - sets.len after.out ≡ free

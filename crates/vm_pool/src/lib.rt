@@ -17,13 +17,14 @@
 //! That threads run at once is tested and not proved.
 //!
 //! **Proved**: each call is its definition over the data of a pool (`specs/Changes.antt`). `revoke` and `grant` of so many frames
-//! are so many of one frame, and ask that each can be done in its turn (`specs/CanMove.antt`). `epoch` is the epoch of each running
-//! guest, for every gate and 1 to 64 workers (`done`); each running guest's number passes the gate once, and those of each thread
-//! rise (`passed`). Memory is wanted only where a guest runs (`memory`, `lowered`); where it is refused, `set_min` and `epoch`
-//! leave all as it was (`unchanged`), and `new` hands the specifications back (`back`). `room_to_start` takes the memory of a guest
-//! beforehand, so that `start` takes none; no other call does. `view` shows a good record, the guest's target among its frames
-//! (`good`), and an active fraction of at most the whole (`active`); `peek` copies exactly where a guest runs at the position and
-//! the page is below its size.
+//! are so many of one frame, and ask that each can be done in its turn (`specs/CanMove.antt`). `epoch` is the epoch of each
+//! running guest, for every gate and 1 to 64 workers (`done`); each running guest's number passes the gate once, and those of
+//! each thread rise (`passed`). Memory is wanted only where a guest runs (`memory`, `lowered`); where it is refused, `set_min`
+//! and `epoch` leave all as it was (`unchanged`), and `new` hands the specifications back (`back`). `take_room` and
+//! `room_to_start` take the memory of a guest beforehand, so that `start` takes none; no other call does. A room that a stopped
+//! guest left is as a new one (`room`). `view` shows a good record, the guest's target among its frames (`good`), and an active
+//! fraction of at most the whole (`active`); `peek` copies exactly where a guest runs at the position and the page is below its
+//! size.
 //!
 //! **Only tested**: that calls succeed where memory is there; that two workers run two guests at once. **Not claimed**: on how many
 //! threads an epoch runs (`threads_worth` is exact, and private); that a gate whose `never_waits` says yes doesn't wait; progress,
@@ -37,6 +38,7 @@ mod law;
 mod minimum;
 mod pool;
 mod round;
+mod shelf;
 mod slot;
 mod turn;
 

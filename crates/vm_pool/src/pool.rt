@@ -13,9 +13,10 @@ ghost use Rattle.vm_pool.specs.declared.slot.Slot.TheVariants.{Stopped};
 
 use crate::aside::put_back;
 use crate::round::{run_epochs, run_epochs_alone};
+use crate::shelf::keep_room;
 use crate::slot::{
     Slot, close_all, grant, guest_of, order, release, revoke, room_to_start, serve, set_cap,
-    set_min, set_shares, spares_back, spec_of, start, stop,
+    set_min, set_shares, spares_back, spec_of, start, stop, take_room,
 };
 use std::alloc::{AllocError, Global};
 use std::marker::Model;
@@ -36,6 +37,8 @@ pub struct Pool {
     slots: Vec<Slot>,
     // None, with room for those of all guests, which come back where the pool ends.
     specs: Vec<GuestSpec>,
+    // The rooms that stopped guests left, with room for one of each guest. No contract sees them.
+    shelf: Vec<GuestRoom>,
 }
 
 impl Model for Pool {
@@ -71,6 +74,11 @@ impl Pool {
             slots.destroy_empty();
             return Err(specs);
         };
+        let Ok(shelf) = Vec::with_capacity(alloc, specs.len()) else {
+            slots.destroy_empty();
+            aside.destroy_empty();
+            return Err(specs);
+        };
         let Ok(machine) = Machine::new(alloc, frames) else {
             slots.destroy_empty();
             aside.destroy_empty();
@@ -84,6 +92,7 @@ impl Pool {
             aside,
             slots,
             specs: left,
+            shelf,
         })
     }
 
@@ -206,6 +215,20 @@ impl Pool {
         room_to_start(alloc, &self.slots[position])
     }
 
+    /// The memory that the guest at a position, which is stopped, needs to start: the room that a guest of the same size and samples
+    /// left, if there is one, and else a new one, for which a room that another guest left is let go. So no more rooms are kept than
+    /// guests ever ran at once.
+    ///
+    /// Memory is asked for only where no such guest left its room, or where the swap area in it has to have more slots.
+    pub fn take_room(&mut self, alloc: Global, position: usize) -> Result<GuestRoom, AllocError>
+        requires within { position < length self.old.guests }
+        requires stopped { guest_at self.old position ≡ None }
+        ensures room { IfOk result (IsRoomAt self.old position) }
+        ensures unchanged { self.new ≡ self.old }
+    {
+        take_room(&mut self.shelf, alloc, &self.slots[position])
+    }
+
     /// Starts the guest at a position, which is stopped, in its room (`virsh start`). Its minimum and its overhead have to be free. It
     /// takes no memory.
     pub fn start(&mut self, position: usize, room: GuestRoom)
@@ -219,13 +242,15 @@ impl Pool {
         take_frames(&mut self.aside, self.overhead, &mut self.machine);
     }
 
-    /// Stops the guest that runs at a position (`virsh destroy`). Its frames and its overhead are free then.
+    /// Stops the guest that runs at a position (`virsh destroy`). Its frames and its overhead are free then. Its room is kept for
+    /// [`Pool::take_room`].
     pub fn stop(&mut self, position: usize)
         requires { IsSome (guest_at self.old position) }
         ensures { self.new ≡ stopped_at self.old position }
     {
-        stop(&mut self.slots[position], &mut self.machine);
+        let room = stop(&mut self.slots[position], &mut self.machine);
         put_back(&mut self.aside, self.overhead, &mut self.machine);
+        keep_room(&mut self.shelf, room);
     }
 
     // Serves the device of the guest at a position.
@@ -420,8 +445,8 @@ impl Pool {
         Ok(())
     }
 
-    /// Ends a pool. Its guests are stopped, all frames go back to the machine, which can be closed only then, and the specifications
-    /// come back in order. It takes no memory.
+    /// Ends a pool. Its guests are stopped, all frames go back to the machine, which can be closed only then, the rooms that were kept
+    /// are let go, and the specifications come back in order. It takes no memory.
     pub fn close(self) -> Vec<GuestSpec>
         ensures { result.items ≡ self.configs }
     {
@@ -431,6 +456,7 @@ impl Pool {
             mut aside,
             slots,
             mut specs,
+            shelf: _,
         } = self;
         close_all(slots, &aside, &mut machine, &mut specs);
         let count = aside.len() as u32;

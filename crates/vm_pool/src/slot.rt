@@ -13,7 +13,7 @@ ghost use Rattle.vm_pool.specs.Guests.{running};
 ghost use Rattle.vm_pool.specs.Pool.{held_by, total_held};
 ghost use Rattle.vm_pool.specs.Slots.{config_in, guest_in, holders, holds, is_away, slot_changed, spec_in, IsRunning, IsSettled, IsStopped};
 
-use crate::{granting, minimum};
+use crate::{granting, minimum, shelf};
 use std::alloc::{AllocError, Global};
 use std::mem;
 use vm_board::Work;
@@ -91,6 +91,22 @@ pub(crate) fn room_to_start(alloc: Global, slot: &Slot) -> Result<GuestRoom, All
     }
 }
 
+// The same, from the shelf where a room there serves.
+pub(crate) fn take_room(
+    shelf: &mut Vec<GuestRoom>,
+    alloc: Global,
+    slot: &Slot,
+) -> Result<GuestRoom, AllocError>
+    requires { IsStopped slot.now }
+    ensures { IfOk result (λ room. room ≡ room_for (config_in slot.now)) }
+{
+    match slot {
+        Slot::Stopped(spec) => shelf::take_room(shelf, alloc, spec),
+        Slot::Running(_) => unreachable!(),
+        Slot::Away => unreachable!(),
+    }
+}
+
 // Starts the stopped guest of a slot in its room. The machine has its minimum free.
 pub(crate) fn start(slot: &mut Slot, room: GuestRoom, machine: &mut Machine)
     requires stopped { IsStopped slot.old }
@@ -108,16 +124,17 @@ pub(crate) fn start(slot: &mut Slot, room: GuestRoom, machine: &mut Machine)
     }
 }
 
-// Stops the running guest of a slot. Its frames go back to the machine.
-pub(crate) fn stop(slot: &mut Slot, machine: &mut Machine)
+// Stops the running guest of a slot. Its frames go back to the machine, and its room is left.
+pub(crate) fn stop(slot: &mut Slot, machine: &mut Machine) -> GuestRoom
     requires runs { IsRunning slot.old }
     requires out { (number : ℕ) → holds number slot.old ≡ true → set.contains machine.old.out number ≡ true }
     ensures { Moves None slot.old slot.new machine.old machine.new }
 {
     match mem::replace(slot, Slot::Away) {
         Slot::Running(guest) => {
-            let spec = guest.stop(machine);
+            let (spec, room) = guest.stop_keeping(machine);
             fill(slot, Slot::Stopped(spec));
+            room
         }
         Slot::Stopped(_) => unreachable!(),
         Slot::Away => unreachable!(),

@@ -485,12 +485,12 @@ fn the_others_wait_in_a_round(rt: HostRuntime) {
     check_one_runs(&rt, &no_passages())
 }
 
-// Starts a guest that can start, and tells whether there was memory for it.
+// Starts a guest that can start, in a room that another one left where one serves it, and tells whether there was memory for it.
 fn starts(rt: &(impl AllocGlobal + Abort), pool: &mut Pool, position: usize) -> bool {
     assert!(rt; position < pool.len());
     let min = pool.stopped(position).expect(rt, "it is stopped").min;
     assert!(rt; u64::from(min) + u64::from(pool.overhead()) <= u64::from(pool.free()));
-    match pool.room_to_start(rt.alloc(), position) {
+    match pool.take_room(rt.alloc(), position) {
         Ok(room) => {
             pool.start(position, room);
             true
@@ -622,4 +622,71 @@ fn epochs_are_the_same_however_they_are_shared(rt: HostRuntime) {
     check_shared(&rt, 100, 3);
     check_shared(&rt, 5, 1500);
     check_shared(&rt, 3, 5000);
+}
+
+// Guests of two sizes start and stop by turns, alone and side by side. The rooms that they leave are used again, so that a thousand
+// turns take no more memory than a few.
+#[test]
+fn guests_start_and_stop_by_turns(rt: HostRuntime) {
+    let mut pool = two_guests(&rt, 1);
+    for turn in 0..1000 {
+        let first = turn % 2;
+        start(&rt, &mut pool, first);
+        check_eq(&rt, (pool.free(), pool.overhead_frames()), (15, 1));
+        start(&rt, &mut pool, 1 - first);
+        check_eq(&rt, (pool.free(), pool.overhead_frames()), (10, 2));
+        stop(&rt, &mut pool, first);
+        stop(&rt, &mut pool, 1 - first);
+        check_eq(&rt, (pool.free(), pool.overhead_frames()), (20, 0));
+    }
+    pool.close();
+}
+
+// Asserts that each page of a guest of eight pages reads as zeros.
+fn check_zeros(rt: &impl Abort, pool: &Pool, position: usize) {
+    for page in 0..8 {
+        let mut bytes = [7; 4096];
+        check_eq(rt, pool.peek(position, page, &mut bytes), true);
+        check_eq(rt, bytes == [0; 4096], true);
+    }
+}
+
+// Runs a guest that writes to each of its eight pages, and tells what is shown of it then. Four of the pages are out.
+fn shown_once_written(
+    rt: &(impl AllocGlobal + Abort + Threads + Sync),
+    pool: &mut Pool,
+    position: usize,
+) -> Option<GuestView> {
+    run(rt, &Open, 1, pool);
+    let mut bytes = [7; 4096];
+    check_eq(
+        rt,
+        pool.peek(position, 0, &mut bytes) && bytes[0] == 0x0a,
+        true,
+    );
+    let view = seen(pool, position).expect(rt, "it runs");
+    check_eq(rt, (view.resident, view.swapped), (4, 4));
+    pool.view(position)
+}
+
+// A guest that starts in the room that another one left finds zeros where that one wrote, in frames and in the swap area, and runs as
+// that one did.
+#[test]
+fn a_guest_in_a_used_room_is_as_a_new_one(rt: HostRuntime) {
+    let mut pool = pool_of_two(&rt, 0, writer(&rt, 8, 8), writer(&rt, 8, 8));
+    start(&rt, &mut pool, 0);
+    check_zeros(&rt, &pool, 0);
+    let first = shown_once_written(&rt, &mut pool, 0);
+    stop(&rt, &mut pool, 0);
+
+    start(&rt, &mut pool, 1);
+    check_zeros(&rt, &pool, 1);
+    let second = shown_once_written(&rt, &mut pool, 1);
+    check_eq(&rt, second, first);
+    stop(&rt, &mut pool, 1);
+
+    start(&rt, &mut pool, 0);
+    check_zeros(&rt, &pool, 0);
+    check_eq(&rt, shown_once_written(&rt, &mut pool, 0), first);
+    pool.close();
 }

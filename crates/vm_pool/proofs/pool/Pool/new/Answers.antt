@@ -19,5 +19,5 @@ invariant_of-result c =
 
 pub returns-clause-first : goal.returns-clause-first
 returns-clause-first c =
-    let p : Inside = record { machine = c.in-Ok-new.machine; overhead = c.args.overhead; aside = c.in-Ok-with_capacity.aside; slots = c.stopped-slots.result; specs = c.stopped-slots.new.specs } in
+    let p : Inside = record { machine = c.in-Ok-new.machine; overhead = c.args.overhead; aside = c.in-Ok-with_capacity.aside; slots = c.stopped-slots.result; specs = c.stopped-slots.new.specs; shelf = c.in-Ok-with_capacity-2.shelf } in
     first-view p c.args.frames c.args.specs.items c.stopped-slots.ensures.slots c.in-Ok-new.ensures

@@ -1,4 +1,4 @@
-use Rattle.std.proofs.Common.{◌≡◌, ◌∙◌, ◌≤◌, IfSome, List, ℕ, None, ap, arith, length, refl, slice_get, subst, sym}
+use Rattle.std.proofs.Common.{◌≡◌, ◌∙◌, ◌≤◌, IfSome, List, ℕ, None, ap, arith, length, slice_get, subst, sym}
 use Rattle.vm_guest.specs.Config.{GuestConfig}
 use Rattle.vm_guest.specs.Room.{room_for}
 use Rattle.vm_pool.specs.Changes.{frames_to_start, started_at}
@@ -10,8 +10,8 @@ use Rattle.vm_reclaim.proofs.RoomLemmas.{configs_taken, kept_room, length_room, 
 use Rattle.vm_sound.specs.Sound.{HasSameSetup}
 use Rattle.vm_sound.proofs.FramesLemmas.{setup-started}
 use Rattle.vm_host.proofs.RefusedLemmas.{refused}
-use Rattle.vm_host.proofs.SetupLemmas.{setup-none, setup-then}
-use Rattle.vm_host.proofs.obey.start.Goals as goal
+use Rattle.vm_host.proofs.SetupLemmas.{setup-then}
+use Rattle.vm_host.proofs.obey.start_in.Goals as goal
 
 pub start-requires-clause-within : goal.start-requires-clause-within
 start-requires-clause-within c =
@@ -30,7 +30,7 @@ start-requires-clause-room c =
     let pool = c.args.pool.now in
     let setup = kept_room (hundredths c.args.tax) None c.needed_to_start-needed.result pool in
     let configs = ap (λ (p : PoolView). p.configs) c.in_ok-plan.ensures.done ∙ setup.configs in
-    subst (λ (configs : List GuestConfig). IfSome (slice_get configs c.args.position) (λ config. c.in_ok-room.room ≡ room_for config)) (sym configs) c.in_ok-room.ensures
+    subst (λ (configs : List GuestConfig). IfSome (slice_get configs c.args.position) (λ config. c.args.room ≡ room_for config)) (sym configs) c.requires.room
 
 pub start-requires-clause-enough : goal.start-requires-clause-enough
 start-requires-clause-enough c =
@@ -71,14 +71,8 @@ returns-clause-setup c =
 
 -- ---- memory was refused
 
-pub returns-in_err-room-clause-unchanged : goal.returns-in_err-room-clause-unchanged
-returns-in_err-room-clause-unchanged c = refused c.from_residual.result (c.args.pool.now ≡ c.args.pool.now) refl
-
-pub returns-in_err-room-clause-setup : goal.returns-in_err-room-clause-setup
-returns-in_err-room-clause-setup c = setup-none c.args.pool.now
-
 pub returns-in_err-plan-clause-unchanged : goal.returns-in_err-plan-clause-unchanged
-returns-in_err-plan-clause-unchanged c = refused c.from_residual-in_err-plan.result (c.make_room.new.pool ≡ c.args.pool.now) c.in_err-plan.ensures.unchanged
+returns-in_err-plan-clause-unchanged c = refused c.from_residual.result (c.make_room.new.pool ≡ c.args.pool.now) c.in_err-plan.ensures.unchanged
 
 pub returns-in_err-plan-clause-setup : goal.returns-in_err-plan-clause-setup
 returns-in_err-plan-clause-setup c = c.in_err-plan.ensures.setup
