@@ -233,12 +233,16 @@ fn each_frame_is_taken(rt: HostRuntime) {
 fn a_map_is_used_again(rt: HostRuntime) {
     let (machine, frame) = only_frame(&rt, rt.alloc());
     let mut map = eight_pages(&rt, rt.alloc());
+    check_eq(&rt, map.is_absent(), true);
     mark_out(&rt, &mut map, 7);
+    check_eq(&rt, map.is_absent(), false);
     put_frame(&rt, &mut map, 2, PatchedFrame::new(frame));
     let (_, frame) = take_frame(&rt, &mut map);
     clear(&rt, &mut map);
+    check_eq(&rt, map.is_absent(), true);
     check_place(&rt, &map, 7, Place::Absent);
     put_frame(&rt, &mut map, 7, frame);
+    check_eq(&rt, map.is_absent(), false);
     check_resident(&rt, &map, &[7]);
     let frame = remove_frame(&rt, &mut map, 7);
     close_empty(&rt, map);

@@ -193,6 +193,37 @@ fn remove_all(rt: &impl Abort, alloc: Global, set: &mut PageSet, size: u32, page
     set.remove_all(&below);
 }
 
+// Adds pages to a set if all are new, and tells whether they were.
+fn insert_if_new(
+    rt: &impl Abort,
+    alloc: Global,
+    set: &mut PageSet,
+    size: u32,
+    pages: &[u32],
+) -> bool
+    requires { length set.old ≡ size }
+    ensures { length set.new ≡ size }
+{
+    let below = pages_below(rt, alloc, size, pages);
+    set.insert_all_if_new(&below)
+}
+
+// Pages of one word and of others come together; where one is there already, or comes twice, none does.
+#[test]
+fn new_pages_come_together(rt: HostRuntime) {
+    let alloc = rt.alloc();
+    let mut set = no_pages(&rt, alloc, 5000);
+    check_eq(&rt, insert_if_new(&rt, alloc, &mut set, 5000, &[]), true);
+    let pages = [4999, 64, 65, 127, 63];
+    check_eq(&rt, insert_if_new(&rt, alloc, &mut set, 5000, &pages), true);
+    check_pages(&rt, &set, &[63, 64, 65, 127, 4999]);
+    for refused in [[0, 1, 2048, 65], [0, 1, 2, 1], [2048, 3, 2048, 4]] {
+        check_eq(&rt, insert_if_new(&rt, alloc, &mut set, 5000, &refused), false);
+        check_pages(&rt, &set, &[63, 64, 65, 127, 4999]);
+    }
+    end(set);
+}
+
 #[test]
 fn listed_pages_leave_a_set(rt: HostRuntime) {
     let alloc = rt.alloc();

@@ -101,6 +101,23 @@ fn one_sample(rt: HostRuntime) {
     end(sampler);
 }
 
+// A sampler that begins anew draws as a new one does: again 2, 1, 2. What was touched before is forgotten, and so are the averages.
+#[test]
+fn sampler_begins_anew(rt: HostRuntime) {
+    let mut words = Words::new(42, 54);
+    let mut sampler = sampler(&rt, rt.alloc(), 1, 5, 4, &mut words);
+    sampler.touch(2);
+    idle_steps(&mut sampler, 60, &mut words);
+    let mut words = Words::new(42, 54);
+    sampler.restart(2, &mut words);
+    check_eq(&rt, (sampler.draws(), sampler.size()), (1, 4));
+    assert_active(&rt, &sampler, 65536);
+    sampler.stepped(&mut words);
+    sampler.stepped(&mut words);
+    assert_active(&rt, &sampler, 57344);
+    end(sampler);
+}
+
 // A touch counts in the period whose draws have its page, and in no other. The draws of these words are 2, 1, 2, 2, 2, 3: after five
 // periods without a hit the slow average is 33614.
 #[test]

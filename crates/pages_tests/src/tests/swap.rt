@@ -205,6 +205,13 @@ fn check_emptied(rt: &impl Abort, area: &SwapArea, capacity: u32) {
     }
 }
 
+// Leaves room for no more than so many pages.
+fn lower(rt: &impl Abort, area: &mut SwapArea, slots: u32) {
+    check(rt, area.len() <= slots);
+    check(rt, slots <= area.capacity());
+    area.lower_to(slots);
+}
+
 // An area that is emptied, with pages of each kind in it and one that is gone already, takes pages again: the first slots, for other
 // pages than before.
 #[test]
@@ -230,6 +237,9 @@ fn emptied_area(rt: HostRuntime) {
     check_absent(&rt, &area, 1);
     check_absent(&rt, &area, 2);
     check_sizes(&rt, &area, 2, 3);
+    lower(&rt, &mut area, 2);
+    check_sizes(&rt, &area, 2, 2);
+    check_page(&rt, &area, 7, 6);
     give_only(&rt, machine, frame.release());
 }
 

@@ -72,3 +72,20 @@ fn each_page_of_a_table_is_set(rt: HostRuntime) {
     }
     end(table);
 }
+
+// Sets the item of a page of a table, and asserts which it had.
+fn check_replace(rt: &impl Abort, table: &mut PageTable<u32>, page: u32, item: u32, wanted: u32) {
+    check(rt, page < table.len());
+    check_eq(rt, table.replace(page, item), wanted);
+}
+
+#[test]
+fn replaced_items_come_back(rt: HostRuntime) {
+    let mut table = table(&rt, rt.alloc(), 300);
+    check_replace(&rt, &mut table, 299, 7, FIRST);
+    check_replace(&rt, &mut table, 299, 299, 7);
+    check_replace(&rt, &mut table, 256, 256, FIRST);
+    check_replace(&rt, &mut table, 0, 0, FIRST);
+    check_numbers(&rt, &table, &[0, 256, 299]);
+    end(table);
+}
