@@ -65,7 +65,7 @@ impl<T: Copy> PageTable<T> {
     }
 
     /// The item of a page.
-    #[inline]
+    #[inline(always)]
     pub fn get(&self, page: u32) -> T
         requires { page < length self.now.list }
         ensures { result ≡ get_or self.now.list page self.now.first }
@@ -93,7 +93,7 @@ impl<T: Copy> PageTable<T> {
     }
 
     /// Sets the item of a page, and answers the one that it had.
-    #[inline]
+    #[inline(always)]
     pub fn replace(&mut self, page: u32, item: T) -> T
         requires { page < length self.old.list }
         ensures before { result ≡ get_or self.old.list page self.old.first }
@@ -121,7 +121,7 @@ impl<T: Copy> PageTable<T> {
 }
 
 // The place of a page's item, if its block was written.
-#[inline]
+#[inline(always)]
 fn place_of(blocks: &[u32], page: u32) -> Option<usize>
     ensures { result ≡ place_of blocks.now page }
 {
@@ -134,7 +134,7 @@ fn place_of(blocks: &[u32], page: u32) -> Option<usize>
 }
 
 // One more than the place at which the items of a block begin, 0 for a block that was never written.
-#[inline]
+#[inline(always)]
 fn start_of(blocks: &[u32], block: u32) -> u32
     ensures { result ≡ get_or blocks.now block 0 }
 {
@@ -145,7 +145,7 @@ fn start_of(blocks: &[u32], block: u32) -> u32
 }
 
 // The place of a page's item, whose block is written if it never was.
-#[inline]
+#[inline(always)]
 fn place_for<T: Copy>(
     blocks: &mut Vec<u32>,
     items: &mut Vec<T>,

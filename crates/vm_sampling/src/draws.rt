@@ -86,6 +86,7 @@ impl Draws {
     }
 
     // How many of the draws gave the page.
+    #[inline(always)]
     pub(crate) fn count_of(&mut self, page: u32) -> u32
         requires { page < self.old.size }
         ensures value { result ≡ draws_of self.old.pages page }
@@ -98,6 +99,7 @@ impl Draws {
 }
 
 // How many of the draws gave the page, by the count of its class where that is enough.
+#[inline(always)]
 fn count_in(drawn: &[u32], counts: &[u16], size: u32, page: u32) -> u32
     requires few_draws { length drawn.now ≤ 1000 }
     requires pages { All (λ page. page < size) drawn.now }
@@ -124,6 +126,7 @@ fn times_drawn(drawn: &[u32], page: u32) -> u32
 }
 
 // Makes the draws that are due, if there are any.
+#[inline(always)]
 fn make_draws(due: Option<Words>, size: u32, drawn: &mut [u32], counts: &mut [u16])
     requires few_draws { length drawn.old ≤ 1000 }
     requires pages_in_range { (1 ≤ size) × (size ≤ 262144) }
@@ -135,10 +138,27 @@ fn make_draws(due: Option<Words>, size: u32, drawn: &mut [u32], counts: &mut [u1
     ensures all { length counts.new ≡ length counts.old }
     ensures counted { AreCounts drawn.new counts.new }
 {
-    if let Some(mut words) = due {
-        clear_counts(drawn, counts, size);
-        redraw(drawn, counts, size, &mut words);
+    if let Some(words) = due {
+        draw_anew(words, size, drawn, counts);
     }
+}
+
+// Makes draws in the place of those that were made. Not inlined, since a touch asks for it once a period.
+#[inline(never)]
+fn draw_anew(words: Words, size: u32, drawn: &mut [u32], counts: &mut [u16])
+    requires few_draws { length drawn.old ≤ 1000 }
+    requires pages_in_range { (1 ≤ size) × (size ≤ 262144) }
+    requires pages { All (λ page. page < size) drawn.old }
+    requires all { length counts.old ≡ classes_of size }
+    requires counted { AreCounts drawn.old counts.old }
+    ensures drawn { drawn.new ≡ draws (length drawn.old) size words }
+    ensures pages { All (λ page. page < size) drawn.new }
+    ensures all { length counts.new ≡ length counts.old }
+    ensures counted { AreCounts drawn.new counts.new }
+{
+    let mut words = words;
+    clear_counts(drawn, counts, size);
+    redraw(drawn, counts, size, &mut words);
 }
 
 // Takes the draws out of the counts, one by one.
