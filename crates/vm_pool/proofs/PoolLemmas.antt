@@ -154,7 +154,7 @@ pool-moved p i was slot middle after aside wanted good m same_room =
     }
 
 -- a shelf may have any rooms
-pub pool-shelved : (p : Inside) (shelf : Vec RoomView) → IsPool p → IsPool (record p { shelf = shelf })
+pub pool-shelved : (p : Inside) (shelf : List RoomView) → IsPool p → IsPool (record p { shelf = shelf })
 pool-shelved p shelf good = record {
   few = good.few;
   fits = good.fits;

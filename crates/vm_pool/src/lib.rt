@@ -44,5 +44,6 @@ mod turn;
 
 pub use law::law_conserves;
 pub use pool::Pool;
+pub use shelf::Shelf;
 pub use vm_board::{Gate, Open, Ran};
 pub use vm_guest::{GuestSpec, GuestView, PageRead, Stats};

@@ -13,7 +13,7 @@ ghost use Rattle.vm_pool.specs.declared.slot.Slot.TheVariants.{Stopped};
 
 use crate::aside::put_back;
 use crate::round::{run_epochs, run_epochs_alone};
-use crate::shelf::keep_room;
+use crate::shelf::Shelf;
 use crate::slot::{
     Slot, close_all, grant, guest_of, order, release, revoke, room_to_start, serve, set_cap,
     set_min, set_shares, spares_back, spec_of, start, stop, take_room,
@@ -38,7 +38,7 @@ pub struct Pool {
     // None, with room for those of all guests, which come back where the pool ends.
     specs: Vec<GuestSpec>,
     // The rooms that stopped guests left, with room for one of each guest. No contract sees them.
-    shelf: Vec<GuestRoom>,
+    shelf: Shelf,
 }
 
 impl Model for Pool {
@@ -66,6 +66,23 @@ impl Pool {
         ensures first { IfOk result (λ pool. pool ≡ first_pool frames overhead specs.items) }
         ensures back { IfErr result (λ back. back ≡ specs) }
     {
+        Pool::with_shelf(alloc, frames, overhead, specs, Shelf::new(alloc))
+    }
+
+    /// The same with the rooms that guests of other pools left, for guests of this one to start in. Where memory is refused, they are
+    /// let go.
+    pub fn with_shelf(
+        alloc: Global,
+        frames: u32,
+        overhead: u32,
+        specs: Vec<GuestSpec>,
+        shelf: Shelf,
+    ) -> Result<Pool, Vec<GuestSpec>>
+        requires few { vec_len specs ≤ 256 }
+        ensures first { IfOk result (λ pool. pool ≡ first_pool frames overhead specs.items) }
+        ensures back { IfErr result (λ back. back ≡ specs) }
+    {
+        let mut shelf = shelf;
         let Ok(slots) = Vec::with_capacity(alloc, specs.len()) else {
             return Err(specs);
         };
@@ -74,11 +91,11 @@ impl Pool {
             slots.destroy_empty();
             return Err(specs);
         };
-        let Ok(shelf) = Vec::with_capacity(alloc, specs.len()) else {
+        if shelf.reserve(specs.len()).is_err() {
             slots.destroy_empty();
             aside.destroy_empty();
             return Err(specs);
-        };
+        }
         let Ok(machine) = Machine::new(alloc, frames) else {
             slots.destroy_empty();
             aside.destroy_empty();
@@ -250,7 +267,7 @@ impl Pool {
     {
         let room = stop(&mut self.slots[position], &mut self.machine);
         put_back(&mut self.aside, self.overhead, &mut self.machine);
-        keep_room(&mut self.shelf, room);
+        self.shelf.keep(room);
     }
 
     // Serves the device of the guest at a position.
@@ -450,20 +467,29 @@ impl Pool {
     pub fn close(self) -> Vec<GuestSpec>
         ensures { result.items ≡ self.configs }
     {
+        let (specs, shelf) = self.close_keeping();
+        drop(shelf);
+        specs
+    }
+
+    /// Ends a pool as [`Pool::close`] does, and keeps the rooms of its guests for another one ([`Pool::with_shelf`]). It takes no memory.
+    pub fn close_keeping(self) -> (Vec<GuestSpec>, Shelf)
+        ensures { result.0.items ≡ self.configs }
+    {
         let Pool {
             mut machine,
             overhead: _,
             mut aside,
             slots,
             mut specs,
-            shelf: _,
+            mut shelf,
         } = self;
-        close_all(slots, &aside, &mut machine, &mut specs);
+        close_all(slots, &aside, &mut shelf, &mut machine, &mut specs);
         let count = aside.len() as u32;
         put_back(&mut aside, count, &mut machine);
         aside.destroy_empty();
         machine.close();
-        specs
+        (specs, shelf)
     }
 
     // The guest at a position, if one runs there.

@@ -13,7 +13,8 @@ ghost use Rattle.vm_pool.specs.Guests.{running};
 ghost use Rattle.vm_pool.specs.Pool.{held_by, total_held};
 ghost use Rattle.vm_pool.specs.Slots.{config_in, guest_in, holders, holds, is_away, slot_changed, spec_in, IsRunning, IsSettled, IsStopped};
 
-use crate::{granting, minimum, shelf};
+use crate::shelf::Shelf;
+use crate::{granting, minimum};
 use std::alloc::{AllocError, Global};
 use std::mem;
 use vm_board::Work;
@@ -93,7 +94,7 @@ pub(crate) fn room_to_start(alloc: Global, slot: &Slot) -> Result<GuestRoom, All
 
 // The same, from the shelf where a room there serves.
 pub(crate) fn take_room(
-    shelf: &mut Vec<GuestRoom>,
+    shelf: &mut Shelf,
     alloc: Global,
     slot: &Slot,
 ) -> Result<GuestRoom, AllocError>
@@ -101,7 +102,7 @@ pub(crate) fn take_room(
     ensures { IfOk result (λ room. room ≡ room_for (config_in slot.now)) }
 {
     match slot {
-        Slot::Stopped(spec) => shelf::take_room(shelf, alloc, spec),
+        Slot::Stopped(spec) => shelf.take(alloc, spec),
         Slot::Running(_) => unreachable!(),
         Slot::Away => unreachable!(),
     }
@@ -246,8 +247,8 @@ pub(crate) fn set_min(slot: &mut Slot, least: u32, machine: &mut Machine) -> Res
     Ok(())
 }
 
-// Ends a slot. The frames of its guest go back to their machine, and the specification comes back.
-fn close(slot: Slot, machine: &mut Machine) -> GuestSpec
+// Ends a slot. The frames of its guest go back to their machine, its room goes to the shelf, and the specification comes back.
+fn close(slot: Slot, shelf: &mut Shelf, machine: &mut Machine) -> GuestSpec
     requires settled { IsSettled slot }
     requires out { (number : ℕ) → holds number slot ≡ true → set.contains machine.old.out number ≡ true }
     ensures total { machine.new.total ≡ machine.old.total }
@@ -257,17 +258,22 @@ fn close(slot: Slot, machine: &mut Machine) -> GuestSpec
     ensures spec { result ≡ config_in slot }
 {
     match slot {
-        Slot::Running(guest) => guest.stop(machine),
+        Slot::Running(guest) => {
+            let (spec, room) = guest.stop_keeping(machine);
+            shelf.keep(room);
+            spec
+        }
         Slot::Stopped(spec) => spec,
         Slot::Away => unreachable!(),
     }
 }
 
-// Ends all slots. The frames of their guests go back to their machine, the others stay out, and the specifications come back in order,
-// in the room that is there for them.
+// Ends all slots. The frames of their guests go back to their machine, the others stay out, their rooms go to the shelf, and the
+// specifications come back in order, in the room that is there for them.
 pub(crate) fn close_all(
     slots: Vec<Slot>,
     others: &[Frame],
+    shelf: &mut Shelf,
     machine: &mut Machine,
     specs: &mut Vec<GuestSpec>,
 )
@@ -282,7 +288,7 @@ pub(crate) fn close_all(
 {
     let mut slots = slots;
     while let Some(slot) = slots.pop() {
-        specs.push_reserved(close(slot, machine));
+        specs.push_reserved(close(slot, shelf, machine));
     }
     slots.destroy_empty();
     specs.reverse();

@@ -35,7 +35,7 @@ invariant_of-self c =
     let there = (runs-within p c.args.self.now c.args.position c.self.view_is c.requires) in
     let runs : IsSome (guest_in was) = subst IsSome (guest-here p c.args.self.now i was c.self.view_is there c.index_mut.ensures.value) c.requires in
     let fewer : length c.put_back.new.aside.items + p.overhead ≡ length p.aside.items = omega (arith, c.put_back.ensures.count, c.put_back.new.aside.ok, p.aside.ok) in
-    pool-shelved (moved p i c.stop-room.new.slot c.put_back.new.machine c.put_back.new.aside) c.keep_room.new.shelf
+    pool-shelved (moved p i c.stop-room.new.slot c.put_back.new.machine c.put_back.new.aside) c.keep.new.self
     (pool-moved p i was c.stop-room.new.slot c.stop-room.new.machine c.put_back.new.machine c.put_back.new.aside None c.self.invariant
     (stops-at p i was c.stop-room.new.slot c.stop-room.new.machine c.put_back.new.machine c.put_back.new.aside.items c.self.invariant there c.index_mut.ensures.value runs c.stop-room.ensures c.put_back.ensures.moved fewer) c.put_back.ensures.room)
 

@@ -2,7 +2,7 @@ use Rattle.std.proofs.Common.{◌≡◌, ◌≤◌, ◌∙◌, ap, length, arith
 use Rattle.vm_pool.specs.declared.pool.Pool.TheInside.{Inside}
 use Rattle.vm_pool.specs.Pool.{most_aside}
 use Rattle.vm_pool.proofs.PoolLemmas.{first-is_pool, first-view}
-use Rattle.vm_pool.proofs.pool.Pool.new.Goals as goal
+use Rattle.vm_pool.proofs.pool.Pool.with_shelf.Goals as goal
 
 pub invariant_of-result : goal.invariant_of-result
 invariant_of-result c =
@@ -19,5 +19,5 @@ invariant_of-result c =
 
 pub returns-clause-first : goal.returns-clause-first
 returns-clause-first c =
-    let p : Inside = record { machine = c.in-Ok-new.machine; overhead = c.args.overhead; aside = c.in-Ok-with_capacity.aside; slots = c.stopped-slots.result; specs = c.stopped-slots.new.specs; shelf = c.in-Ok-with_capacity-2.shelf } in
+    let p : Inside = record { machine = c.in-Ok-new.machine; overhead = c.args.overhead; aside = c.in-Ok-with_capacity.aside; slots = c.stopped-slots.result; specs = c.stopped-slots.new.specs; shelf = c.reserve.new.self } in
     first-view p c.args.frames c.args.specs.items c.stopped-slots.ensures.slots c.in-Ok-new.ensures
