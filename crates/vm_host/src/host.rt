@@ -30,7 +30,7 @@ use vm_admission::Books;
 use vm_domains::{Domains, MachineSpec, Names};
 use vm_frames::PAGE_BYTES;
 use vm_plan::State;
-use vm_pool::{Gate, GuestView, PageRead, Pool};
+use vm_pool::{Gate, GuestView, PageRead, Pool, Shelf};
 
 /// Why a host did not go on. It is looked at in this order: `Failed`, then `Memory`.
 #[derive(Clone, Copy, Debug, PartialEq, Eq)]
@@ -68,8 +68,22 @@ impl Host {
         ensures first { IfOk result (λ host. host ≡ first_world spec domains) }
         ensures back { IfErr result (λ back. back ≡ domains) }
     {
+        Host::with_shelf(alloc, spec, domains, Shelf::new(alloc))
+    }
+
+    /// The same with the rooms that guests of other hosts left, for guests of this one to start in. Where memory is refused, they are
+    /// let go.
+    pub fn with_shelf(
+        alloc: Global,
+        spec: MachineSpec,
+        domains: Domains,
+        shelf: Shelf,
+    ) -> Result<Host, Domains>
+        ensures first { IfOk result (λ host. host ≡ first_world spec domains) }
+        ensures back { IfErr result (λ back. back ≡ domains) }
+    {
         let (names, specs) = domains.into_parts();
-        match Pool::new(alloc, spec.frames, spec.overhead, specs) {
+        match Pool::with_shelf(alloc, spec.frames, spec.overhead, specs, shelf) {
             Ok(pool) => Ok(Host {
                 parts: first_parts(spec, names, pool),
                 books: Books::new(spec.frames, spec.swap, spec.overhead),
@@ -302,6 +316,15 @@ impl Host {
     pub fn close(self) -> Domains
         ensures { result ≡ domains_of self.names self.pool.configs }
     {
+        let (domains, shelf) = self.close_keeping();
+        drop(shelf);
+        domains
+    }
+
+    /// Ends a host as [`Host::close`] does, and keeps the rooms of its guests for another one ([`Host::with_shelf`]). It takes no memory.
+    pub fn close_keeping(self) -> (Domains, Shelf)
+        ensures { result.0 ≡ domains_of self.names self.pool.configs }
+    {
         let Host { parts, books: _ } = self;
         let Parts {
             spec: _,
@@ -310,7 +333,8 @@ impl Host {
             state: _,
             phase: _,
         } = parts;
-        Domains::from_parts(names, pool.close())
+        let (specs, shelf) = pool.close_keeping();
+        (Domains::from_parts(names, specs), shelf)
     }
 }
 

@@ -35,7 +35,8 @@
 //! on an error (`done`, `unchanged`); each running guest's number passes the gate once, those of each thread rising (`passed`).
 //! `epoch_alone` is the same on the caller's thread. Readers show the world; `peek` copies a page exactly where a running guest has
 //! the name, the page is below its size and the host has not failed. `close` takes any host and gives the domains back; that every
-//! frame goes back is the proof of its body, and no clause.
+//! frame goes back is the proof of its body, and no clause. `with_shelf` is `new`, and `close_keeping` is `close`, whatever rooms of
+//! guests go from one host to the next.
 //!
 //! **Only tested**: that calls succeed where memory is there, without domains too; that two workers run two guests at once; worked
 //! examples. **Not claimed**: speed. For callers: `proofs/FirstLemmas`, `KeptLemmas`, `PolicyLemmas`.
@@ -58,5 +59,5 @@ pub use lines::Lines;
 pub use phase::Phase;
 pub use vm_domains::{Domains, MachineSpec, Percents};
 pub use vm_plan::{Plan, State};
-pub use vm_pool::{Gate, GuestSpec, GuestView, Open, PageRead, Ran, Stats};
+pub use vm_pool::{Gate, GuestSpec, GuestView, Open, PageRead, Ran, Shelf, Stats};
 pub use vm_reclaim::{Blocked, Paged, Paging};

@@ -13,7 +13,7 @@ use Rattle.vm_host.specs.Sound.{IsSoundWorld}
 use Rattle.vm_host.specs.World.{World, first_world}
 use Rattle.vm_host.proofs.FirstLemmas.{books-first, sound-first}
 use Rattle.vm_host.proofs.SoundLemmas.{paired-domains}
-use Rattle.vm_host.proofs.host.Host.new.Goals as goal
+use Rattle.vm_host.proofs.host.Host.with_shelf.Goals as goal
 
 pub returns-in-Ok-clause-first : goal.returns-in-Ok-clause-first
 returns-in-Ok-clause-first c =
@@ -54,5 +54,5 @@ invariant_of-result c =
       paired = paired-domains _ sound;
       adds_up = sound.conserves;
       sound = λ _. sound;
-      booked = λ _. c.new-in-Ok.ensures ∙ (ap (λ (m : MachineConfig). empty_accounts m.frames m.swap m.overhead) c.spec-in-Ok.view_is ∙ (books-first spec domains ∙ ap books_of (sym is)));
+      booked = λ _. c.new.ensures ∙ (ap (λ (m : MachineConfig). empty_accounts m.frames m.swap m.overhead) c.spec-in-Ok.view_is ∙ (books-first spec domains ∙ ap books_of (sym is)));
     }
