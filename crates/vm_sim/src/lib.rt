@@ -17,7 +17,7 @@
 //! told (`reader_failed`, `writer_failed`), so that `Memory` says that neither did. At most 16777217 bytes are read (`at_most`).
 //! [`law_runs`] has the four facts of each configuration within its limits; [`law_migration`] that one of version 1 runs by the
 //! formulas of whole percents as the one that it is migrated to. The parts of a report are their definitions. A [`SteppedRun`] is
-//! the same run, a boundary and an epoch at a time (`start`, `made`, `told`, `next`).
+//! the same run, a boundary and an epoch at a time (`start`, `made`, `told`, `next`), also with the rooms of another run's guests.
 //!
 //! **Only tested**: that a run succeeds where memory is there; that two threads serve guests at once; the texts of [`RunError`].
 //! **Not claimed**: that `Memory` comes only where memory was refused; speed; that a run ends, since it joins threads. Where a
@@ -47,5 +47,5 @@ pub use vm_config::{
     Autostart, Config, ConfigError, ConfigV1, Domains, Fault, Key, MachineSpec, Part, Place,
     Schedule, Scheduled, TraceError, explain, migrate, read_config, read_config_v1,
 };
-pub use vm_host::{Boundary, Gate, Host, Lines, Open, Ran};
+pub use vm_host::{Boundary, Gate, Host, Lines, Open, Ran, Shelf};
 pub use vm_streams::{Sink, Source, Watched, WriteFailed, write_text};

@@ -14,7 +14,7 @@ use std::alloc::Global;
 use std::marker::Model;
 use std::thread::Threads;
 use vm_config::{Config, read_config};
-use vm_host::{Boundary, Gate, Host};
+use vm_host::{Boundary, Gate, Host, Shelf};
 
 /// The run of a configuration, which goes on by one epoch at a time, so that its host can be looked at after each. It has to be
 /// closed, since the guests hold the machine's frames.
@@ -41,6 +41,16 @@ impl SteppedRun {
         ensures waits { IfOk result (λ run. run.host.phase ≡ Waiting) }
         ensures memory { IfErr result (λ error. error ≡ Memory) }
     {
+        SteppedRun::with_shelf(alloc, config, Shelf::new(alloc))
+    }
+
+    /// The same with the rooms that guests of other runs left, for guests of this one to start in. An `Err` says that memory was
+    /// refused; the configuration and the rooms are let go then.
+    pub fn with_shelf(alloc: Global, config: Config, shelf: Shelf) -> Result<Self, RunError>
+        ensures start { IfOk result (λ run. run ≡ run_after config 0) }
+        ensures waits { IfOk result (λ run. run.host.phase ≡ Waiting) }
+        ensures memory { IfErr result (λ error. error ≡ Memory) }
+    {
         let Config {
             machine,
             epochs,
@@ -53,7 +63,7 @@ impl SteppedRun {
             commands,
         };
         let calendar = Calendar::new(alloc, agenda, epochs)?;
-        match Host::new(alloc, machine, domains) {
+        match Host::with_shelf(alloc, machine, domains, shelf) {
             Ok(host) => Ok(SteppedRun {
                 host,
                 calendar,
@@ -200,6 +210,17 @@ impl SteppedRun {
         ensures back { (config : Configuration) (k : ℕ) → self ≡ run_after config k → result ≡ config }
         ensures ready { (config : Configuration) (k : ℕ) → self ≡ run_ready config k → result ≡ config }
     {
+        let (config, shelf) = self.close_keeping();
+        drop(shelf);
+        config
+    }
+
+    /// Ends the run as [`SteppedRun::close`] does, and keeps the rooms of its guests for another one ([`SteppedRun::with_shelf`]). It
+    /// takes no memory.
+    pub fn close_keeping(self) -> (Config, Shelf)
+        ensures back { (config : Configuration) (k : ℕ) → self ≡ run_after config k → result.0 ≡ config }
+        ensures ready { (config : Configuration) (k : ℕ) → self ≡ run_ready config k → result.0 ≡ config }
+    {
         let SteppedRun {
             host,
             calendar,
@@ -211,12 +232,14 @@ impl SteppedRun {
             autostart,
             commands,
         } = calendar.into_agenda();
-        Config {
+        let (domains, shelf) = host.close_keeping();
+        let config = Config {
             machine,
             epochs,
-            domains: host.close(),
+            domains,
             autostart,
             commands,
-        }
+        };
+        (config, shelf)
     }
 }

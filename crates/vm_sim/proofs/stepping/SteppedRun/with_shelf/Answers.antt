@@ -1,4 +1,4 @@
-use Rattle.vm_sim.proofs.stepping.SteppedRun.new.Goals as goal
+use Rattle.vm_sim.proofs.stepping.SteppedRun.with_shelf.Goals as goal
 
 pub returns-in-Ok-clause-start : goal.returns-in-Ok-clause-start
 returns-in-Ok-clause-start c = λ i. record {
