@@ -1,4 +1,6 @@
 pub mod VirtioLemmas
+pub mod PageBufferLemmas
+pub mod ReadBackLemmas
 pub mod StatisticsLemmas
 pub mod MarkLemmas
 pub mod QueueLemmas

@@ -99,8 +99,5 @@ pub length-marked : (size : ℕ) (numbers : List ℕ) → length (insert_all (no
 length-marked size numbers = length-insert_all (no_pages size) numbers ∙ length-no_pages size
 
 -- the marks with those of one more buffer
-pub marked-push : (size : ℕ) (buffers : List (List ℕ)) (bytes : List ℕ)
-    → insert_all (insert_all (no_pages size) (numbers_in buffers)) (page_numbers bytes) ≡ insert_all (no_pages size) (numbers_in (buffers ++ bytes ∷ []))
-marked-push size buffers bytes =
-    sym (fold-append insert (no_pages size) (numbers_in buffers) (page_numbers bytes))
-    ∙ ap (insert_all (no_pages size)) (sym (numbers_in-push buffers bytes))
+pub marked-push : (size : ℕ) (numbers added : List ℕ) → insert_all (insert_all (no_pages size) numbers) added ≡ insert_all (no_pages size) (numbers ++ added)
+marked-push size numbers added = sym (fold-append insert (no_pages size) numbers added)

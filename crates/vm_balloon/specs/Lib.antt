@@ -1,4 +1,5 @@
 pub mod Virtio
+pub mod PageBuffers
 pub mod Statistics
 pub mod Tags
 pub mod StatsOf
@@ -9,6 +10,7 @@ pub mod BuffersFields
 pub mod PageQueue
 pub mod Device
 pub mod ReportsFields
+pub mod PageQueueKind
 pub mod DeviceFields
 pub mod Lending
 pub mod PostErrorText

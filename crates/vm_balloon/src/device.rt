@@ -4,6 +4,8 @@ ghost use Rattle.std.specs.Int.{w32, to_le_bytes};
 ghost use Rattle.vm_pages.specs.Pages.{no_pages, contains, count, members, insert_all, neither, remove_all, without};
 ghost use Rattle.vm_balloon.specs.Room.{HasRoomFor, KeepsRoom};
 ghost use Rattle.vm_balloon.specs.Service.{numbers_in, refused, inflated_by, deflated_by};
+ghost use Rattle.vm_balloon.specs.Virtio.{page_buffer};
+ghost use Rattle.vm_balloon.specs.PageQueueKind.{queue_of};
 ghost use Rattle.vm_balloon.specs.Device.{device_of, no_stats, posted_count, with_posted, is_named, with_early_use, inflated, deflated, bad, served, IsGood};
 
 use crate::buffer::MOST_BYTES;
@@ -25,6 +27,15 @@ pub enum Queue {
     Deflate,
     /// statsq: what the guest's driver says of its memory.
     Statistics,
+}
+
+/// A virtqueue of page buffers.
+#[derive(Clone, Copy, Debug, PartialEq, Eq)]
+pub enum PageQueueKind {
+    /// inflateq: page numbers that the guest gives up.
+    Inflate,
+    /// deflateq: page numbers that the guest wants back.
+    Deflate,
 }
 
 /// What one service of the device did.
@@ -58,10 +69,11 @@ impl Served {
 ///
 /// Clauses read it as `DeviceState` of `specs/Device.antt`. Pages are of 4096 bytes and numbered from 0.
 ///
-/// No call but [`Device::new`] takes memory. `post` takes time for the bytes posted, `serve` for the page numbers posted since the
-/// last service and the pages used early, and `reset` for both and for the counts of [`PageSet::clear`]; none of them goes by the
-/// guest's size otherwise. `stats` takes time for the bytes of the statistics buffer that was served last, `list_ballooned` and
-/// `list_outside` the time of [`PageSet::list_least`] and of [`PageSet::list_greatest_outside`]; every other call takes constant time.
+/// No call but [`Device::new`] takes memory. `post` takes time for the bytes posted, `post_pages` for the page numbers posted, `serve`
+/// for those posted since the last service and the pages used early, and `reset` for both and for the counts of [`PageSet::clear`];
+/// none of them goes by the guest's size otherwise. `stats` takes time for the bytes of the statistics buffer that was served last,
+/// `list_ballooned` and `list_outside` the time of [`PageSet::list_least`] and of [`PageSet::list_greatest_outside`]; every other call
+/// takes constant time. Of a page buffer 4 bytes stay for each page number, and 6 more.
 #[derive(Drop)]
 pub struct Device {
     early: PageSet,
@@ -172,6 +184,36 @@ impl Device {
                 self.has_deflates = true;
             }
             Queue::Statistics => self.reports.push(bytes),
+        }
+        Ok(())
+    }
+
+    /// Posts a buffer of these page numbers, four bytes each, low byte first, as [`Device::post`] does. No bytes are made of them.
+    ///
+    /// `TooLong` where there are more than 256 of them, which is more than 1024 bytes; else `Full` as for other buffers. A refusal
+    /// changes nothing.
+    pub fn post_pages(&mut self, queue: PageQueueKind, pages: &[u32]) -> Result<(), PostError>
+        ensures ok { OnOk result (self.new ≡ with_posted self.old (queue_of queue) (page_buffer pages.now)) }
+        ensures err { OnErr result (self.new ≡ self.old) }
+        ensures too_long { (result ≡ Err PostError.TooLong) ↔ (256 < length pages.now) }
+        ensures full { (result ≡ Err PostError.Full) ↔ ((length pages.now ≤ 256) × (posted_count self.old ≡ self.old.buffers)) }
+    {
+        if pages.len() > MOST_NUMBERS {
+            return Err(PostError::TooLong);
+        }
+        let posted = self.inflates.len() + self.deflates.len() + self.reports.len();
+        if posted == self.buffers as usize {
+            return Err(PostError::Full);
+        }
+        match queue {
+            PageQueueKind::Inflate => {
+                self.inflates.push_pages(pages);
+                self.has_inflates = true;
+            }
+            PageQueueKind::Deflate => {
+                self.deflates.push_pages(pages);
+                self.has_deflates = true;
+            }
         }
         Ok(())
     }

@@ -3,17 +3,18 @@
 //!
 //! Left out are the rings of the queues, notifications and transports: a buffer is a list of bytes.
 //!
-//! **Proved**: what is posted, and when each refusal comes (`post`: `ok`, `too_long`, `full`, `err`); what a service accepts,
-//! ignores and leaves (`serve`: `device`, `inflated`, `deflated`, `bad`); the configuration bytes, page numbers and statistics at
-//! every place, with both round trips (`encode_page`, `encode_stat`: `reads_back`); what holds of every device, as that the balloon
-//! and the pages in early use are disjoint between services (`balloon_len`: `good`); the least ballooned pages in order
-//! (`list_ballooned`); that a device which is reset is as a new one (`reset`). No call but `new` takes memory.
+//! **Proved**: what is posted, as bytes or as page numbers, and when each refusal comes (`post`, `post_pages`: `ok`, `too_long`,
+//! `full`, `err`); what a service accepts, ignores and leaves (`serve`: `device`, `inflated`, `deflated`, `bad`); the configuration
+//! bytes, page numbers and statistics at every place, with both round trips (`encode_page`, `encode_stat`: `reads_back`); what holds
+//! of every device, as that the balloon and the pages in early use are disjoint between services (`balloon_len`: `good`); the least
+//! ballooned pages in order (`list_ballooned`); that a device which is reset is as a new one (`reset`). No call but `new` takes memory.
 //!
 //! **Only tested**: that calls succeed, and the numbers of the errors. **Not claimed**: rings, notifications, transports, any real
 //! driver; speed.
 #![tactic(auto)]
 
 mod buffer;
+mod buffer_end;
 mod buffers;
 mod decode;
 mod device;
@@ -24,7 +25,7 @@ mod service;
 mod stats;
 mod virtio;
 
-pub use device::{Device, Queue, Served};
+pub use device::{Device, PageQueueKind, Queue, Served};
 pub use error::PostError;
 pub use stats::Stats;
 pub use virtio::{encode_page, encode_stat, page_at, stat_at};

@@ -1,20 +1,21 @@
-ghost use Rattle.std.specs.Prelude.{◌≡◌, ◌+◌, ◌*◌, ◌<◌, ◌≤◌, ◌∷◌, ◌++◌, true, [], All, IfOk, OnErr, length, vec_capacity, vec_len};
+ghost use Rattle.std.specs.Prelude.{◌≡◌, ◌+◌, ◌*◌, ◌^◌, ◌<◌, ◌≤◌, ◌∷◌, ◌++◌, true, [], All, IfOk, OnErr, length, vec_capacity, vec_len};
 ghost use Rattle.std.specs.Bool.{OnTrue};
 ghost use Rattle.vm_pages.specs.Pages.{insert, remove, insert_all, remove_all};
 ghost use Rattle.vm_balloon.specs.Room.{KeepsRoom};
 ghost use Rattle.vm_balloon.specs.Service.{numbers_in, ragged};
-ghost use Rattle.vm_balloon.specs.Virtio.{page_numbers};
+ghost use Rattle.vm_balloon.specs.Virtio.{page_buffer, page_numbers};
 ghost use Rattle.vm_balloon.specs.Device.{is_named};
 
-use crate::buffers::Buffers;
-use crate::decode::{MOST_NUMBERS, append_numbers, ragged_count};
+use crate::buffer_end::BufferEnd;
+use crate::decode::{MOST_NUMBERS, append_numbers, append_within, ragged_count};
 use std::alloc::{AllocError, Global};
 use std::marker::Model;
 use vm_pages::PageMarks;
 
 /// The page buffers that are posted to one queue, in order, and marks on those of the guest's pages that they name.
 ///
-/// The bytes of a buffer are read once, when it is posted: its page numbers stay until it is taken out.
+/// The bytes of a buffer are read once, when it is posted: its page numbers stay until it is taken out, and beside them how many they
+/// are and what is behind them, which tells its bytes.
 #[derive(Drop)]
 pub(crate) struct PageQueue {
     size: u32,
@@ -24,7 +25,8 @@ pub(crate) struct PageQueue {
     in_range: bool,
     // The page numbers of the buffers, in order.
     numbers: Vec<u32>,
-    buffers: Buffers,
+    // What the buffers have beside their page numbers, in order.
+    ends: Vec<BufferEnd>,
     named: PageMarks,
 }
 
@@ -53,7 +55,7 @@ impl PageQueue {
             ragged_buffers: 0,
             in_range: true,
             numbers: Vec::with_capacity(alloc, MOST_NUMBERS * room)?,
-            buffers: Buffers::new(alloc, room)?,
+            ends: Vec::with_capacity(alloc, room)?,
             named: PageMarks::new(alloc, size)?,
         })
     }
@@ -68,7 +70,19 @@ impl PageQueue {
         let in_range = keep_numbers(bytes, self.size, &mut self.numbers, &mut self.named);
         self.in_range &= in_range;
         self.ragged_buffers += ragged_count(bytes);
-        self.buffers.push(bytes);
+        self.ends.push_reserved(BufferEnd::of(bytes));
+    }
+
+    /// Posts a buffer of page numbers, in time for them.
+    pub(crate) fn push_pages(&mut self, pages: &[u32])
+        requires short { length pages.now ≤ 256 }
+        requires room { length self.old.buffers < self.old.room }
+        requires few { length self.old.buffers < 256 }
+        ensures { self.new ≡ record self.old { buffers = self.old.buffers ++ page_buffer pages.now ∷ [] } }
+    {
+        let in_range = keep_pages(pages, self.size, &mut self.numbers, &mut self.named);
+        self.in_range &= in_range;
+        self.ends.push_reserved(BufferEnd::of_pages(pages));
     }
 
     /// Takes all buffers out, in time for their page numbers.
@@ -77,7 +91,7 @@ impl PageQueue {
     {
         unmark_all(&self.numbers, self.size, self.in_range, &mut self.named);
         self.numbers.clear();
-        self.buffers.clear();
+        self.ends.clear();
         self.in_range = true;
         self.ragged_buffers = 0;
     }
@@ -116,7 +130,7 @@ impl PageQueue {
     pub(crate) fn len(&self) -> usize
         ensures { result ≡ length self.now.buffers }
     {
-        self.buffers.len()
+        self.ends.len()
     }
 
     /// Whether a buffer names the page, in constant time.
@@ -142,6 +156,22 @@ fn keep_numbers(bytes: &[u8], size: u32, numbers: &mut Vec<u32>, named: &mut Pag
     let before = numbers.len();
     append_numbers(bytes, numbers);
     mark_all(&numbers[before..], size, named)
+}
+
+// Keeps page numbers, in room that is there, and marks those pages of them that are the guest's. Says whether all are.
+fn keep_pages(pages: &[u32], size: u32, numbers: &mut Vec<u32>, named: &mut PageMarks) -> bool
+    requires few { length pages.now ≤ 256 }
+    requires room { vec_len numbers.old + 256 ≤ vec_capacity numbers.old }
+    requires size { length named.old ≡ size }
+    ensures numbers { numbers.new.items ≡ numbers.old.items ++ pages.now }
+    ensures few { vec_len numbers.new ≤ vec_len numbers.old + 256 }
+    ensures pages { named.new ≡ insert_all named.old pages.now }
+    ensures in_range { OnTrue result (All (λ number. number < size) pages.now) }
+    ensures fit { All (λ number. number < 2 ^ 32) pages.now }
+    ensures room { KeepsRoom numbers.old numbers.new }
+{
+    append_within(numbers, pages);
+    mark_all(pages, size, named)
 }
 
 // Marks those pages that are the guest's, and says whether all are.

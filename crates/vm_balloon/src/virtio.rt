@@ -2,8 +2,8 @@ ghost use Rattle.std.specs.Prelude.{◌≡◌, ◌++◌, ◌/◌, ◌<◌, Some,
 ghost use Rattle.std.specs.Int.{w16, w32, w64, from_le_bytes, to_le_bytes};
 ghost use Rattle.vm_balloon.specs.Virtio.{page_number, page_numbers, stat_entry, stat_entries};
 
-// The bytes of a page number in a page buffer.
-const PAGE_NUMBER_BYTES: usize = 4;
+/// The bytes of a page number in a page buffer.
+pub(crate) const PAGE_NUMBER_BYTES: usize = 4;
 
 // The bytes of an entry in a statistics buffer.
 const STAT_BYTES: usize = 10;
