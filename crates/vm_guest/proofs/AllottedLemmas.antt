@@ -20,7 +20,7 @@ allotted-guest i a sound swap is =
     record {
       fit = record {
         sound = sound;
-        tied = record { swap = swap; early_room = tied.early_room; pages_room = tied.pages_room; bytes_room = tied.bytes_room };
+        tied = record { swap = swap; early_room = tied.early_room; pages_room = tied.pages_room };
       };
       room = λ prepared. let room = is.room prepared in record { reads = room.reads };
     }
@@ -32,7 +32,7 @@ holding-guest i h sound more is =
     record {
       fit = record {
         sound = sound;
-        tied = record { swap = omega (arith, tied.swap, more); early_room = tied.early_room; pages_room = tied.pages_room; bytes_room = tied.bytes_room };
+        tied = record { swap = omega (arith, tied.swap, more); early_room = tied.early_room; pages_room = tied.pages_room };
       };
       room = λ prepared. let room = is.room prepared in record { reads = room.reads };
     }

@@ -16,5 +16,4 @@ returns-clause-room c =
       early_room = omega (arith, c.clear-2.ensures.capacity, tied.early_room);
       reads = c.clear-3.ensures.items;
       pages_room = tied.pages_room;
-      bytes_room = tied.bytes_room;
     }

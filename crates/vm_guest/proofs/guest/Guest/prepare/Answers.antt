@@ -17,7 +17,7 @@ prepared-guest i reads same room is =
     record {
       fit = record {
         sound = subst (λ read. IsSound (record (record_of i.parts) { reads = read })) (sym same) is.fit.sound;
-        tied = record { swap = tied.swap; early_room = tied.early_room; pages_room = tied.pages_room; bytes_room = tied.bytes_room };
+        tied = record { swap = tied.swap; early_room = tied.early_room; pages_room = tied.pages_room };
       };
       room = λ prepared. record { reads = omega (arith, len, room) };
     }

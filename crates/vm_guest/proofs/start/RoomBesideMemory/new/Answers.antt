@@ -14,6 +14,5 @@ returns c =
       used_early = c.in_ok-used_early.ensures.items;
       early_room = c.in_ok-used_early.ensures.capacity;
       reads = c.new-5.ensures.items;
-      pages_room = c.in_ok-draft.ensures.pages;
-      bytes_room = c.in_ok-draft.ensures.bytes;
+      pages_room = c.in_ok-draft.ensures;
     })
