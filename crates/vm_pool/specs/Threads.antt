@@ -18,10 +18,10 @@ beside_of g = (work_ahead g).beside
 abbrev pub step_time : ℕ → ℕ
 step_time pages = 25 + min 175 (pages / 1000)
 
--- how long the epochs of all guests take beyond twice what it takes to move the guests into a round and back, since two threads save
--- half of the epochs
+-- how long the epochs of all guests take beyond twice what it takes to move the boxes of the guests into a round and back, since two
+-- threads save half of the epochs
 abbrev pub gain_of : Guests → ℕ
-gain_of guests = total steps_of guests * step_time (total pages_of guests) + total beside_of guests - 2000 * running_count guests
+gain_of guests = total steps_of guests * step_time (total pages_of guests) + total beside_of guests - 200 * running_count guests
 
 -- what so many threads have to gain so that the last of them saves twice its start, of 45000
 abbrev pub start_of : ℕ → ℕ

@@ -20,11 +20,13 @@
 //! are so many of one frame, and ask that each can be done in its turn (`specs/CanMove.antt`). `epoch` is the epoch of each
 //! running guest, for every gate and 1 to 64 workers (`done`); each running guest's number passes the gate once, and those of
 //! each thread rise (`passed`). Memory is wanted only where a guest runs (`memory`, `lowered`); where it is refused, `set_min`
-//! and `epoch` leave all as it was (`unchanged`), and `new` hands the specifications back (`back`). `take_room` and
+//! and `epoch` leave all as it was (`unchanged`), and `new` hands the specifications back (`back`). `new` takes a box for each
+//! guest to run in, which stays as long as the pool, so that an epoch on threads moves no guest. Beside the boxes, `take_room` and
 //! `room_to_start` take the memory of a guest beforehand, so that `start` takes none; no other call does. A room that a stopped
-//! guest left is as a new one (`room`). `view` shows a good record, the guest's target among its frames (`good`), and an active
-//! fraction of at most the whole (`active`); `peek` copies exactly where a guest runs at the position and the page is below its
-//! size.
+//! guest left is as a new one (`room`), also in a pool after the one that it ran in: `with_shelf` is `new`, and `close_keeping` is
+//! `close`, whatever rooms lie on the [`Shelf`] that goes from one to the other. `view` shows a good record, the guest's target among
+//! its frames (`good`), and an active fraction of at most the whole (`active`); `peek` copies exactly where a guest runs at the position
+//! and the page is below its size.
 //!
 //! **Only tested**: that calls succeed where memory is there; that two workers run two guests at once. **Not claimed**: on how many
 //! threads an epoch runs (`threads_worth` is exact, and private); that a gate whose `never_waits` says yes doesn't wait; progress,
@@ -38,6 +40,7 @@ mod law;
 mod minimum;
 mod pool;
 mod round;
+mod seat;
 mod shelf;
 mod slot;
 mod turn;

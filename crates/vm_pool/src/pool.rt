@@ -13,6 +13,7 @@ ghost use Rattle.vm_pool.specs.declared.slot.Slot.TheVariants.{Stopped};
 
 use crate::aside::put_back;
 use crate::round::{run_epochs, run_epochs_alone};
+use crate::seat::{Seat, free_seats};
 use crate::shelf::Shelf;
 use crate::slot::{
     Slot, close_all, grant, guest_of, order, release, revoke, room_to_start, serve, set_cap,
@@ -83,6 +84,12 @@ impl Pool {
         ensures back { IfErr result (λ back. back ≡ specs) }
     {
         let mut shelf = shelf;
+        if shelf.reserve(specs.len()).is_err() {
+            return Err(specs);
+        }
+        let Ok(seats) = free_seats(alloc, specs.len()) else {
+            return Err(specs);
+        };
         let Ok(slots) = Vec::with_capacity(alloc, specs.len()) else {
             return Err(specs);
         };
@@ -91,18 +98,13 @@ impl Pool {
             slots.destroy_empty();
             return Err(specs);
         };
-        if shelf.reserve(specs.len()).is_err() {
-            slots.destroy_empty();
-            aside.destroy_empty();
-            return Err(specs);
-        }
         let Ok(machine) = Machine::new(alloc, frames) else {
             slots.destroy_empty();
             aside.destroy_empty();
             return Err(specs);
         };
         let mut left = specs;
-        let slots = stopped(slots, &mut left);
+        let slots = stopped(slots, seats, &mut left);
         Ok(Pool {
             machine,
             overhead,
@@ -509,17 +511,22 @@ fn most_aside(overhead: u32, guests: usize, frames: u32) -> usize
     (overhead as usize * guests).min(frames as usize)
 }
 
-// A slot with each specification, in order, put into the room that is there for them.
-fn stopped(slots: Vec<Slot>, specs: &mut Vec<GuestSpec>) -> Vec<Slot>
+// A slot with each specification and a seat, in order, put into the room that is there for them.
+fn stopped(slots: Vec<Slot>, seats: Vec<Seat>, specs: &mut Vec<GuestSpec>) -> Vec<Slot>
     requires none { slots.items ≡ [] }
     requires room { vec_len specs.old ≤ vec_capacity slots }
+    requires seats { vec_len seats ≡ vec_len specs.old }
     ensures slots { result.items ≡ map Stopped specs.old.items }
     ensures none { specs.new.items ≡ [] }
     ensures room { vec_capacity specs.new ≡ vec_capacity specs.old }
 {
     let mut slots = slots;
+    let mut seats = seats;
     while let Some(spec) = specs.pop() {
-        slots.push_reserved(Slot::Stopped(spec));
+        match seats.pop() {
+            Some(seat) => slots.push_reserved(Slot::Stopped(seat.with_spec(spec))),
+            None => unreachable!(),
+        }
     }
     slots.reverse();
     slots

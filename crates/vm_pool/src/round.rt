@@ -30,8 +30,8 @@ const PAGES_OF_A_NANOSECOND: u64 = 1000;
 // Nanoseconds that a thread has to save: twice its start, which takes longer where the processors have other work.
 const WORTH_TIME: u64 = 90000;
 
-// Nanoseconds that it takes to move a guest into a round and back.
-const MOVE_TIME: u64 = 1000;
+// Nanoseconds that it takes to move the box of a guest into a round and back.
+const MOVE_TIME: u64 = 100;
 
 // Each guest runs its epoch, on at most so many threads. Where memory is refused, which is only where a guest runs, none does, and there
 // may be room for the epochs of some.
@@ -165,9 +165,9 @@ fn work_in(slot: &Slot) -> WorkAhead
     }
 }
 
-// Twice what it takes to move that guest.
+// Twice what it takes to move the box of that guest.
 fn move_of(slot: &Slot) -> u64
-    ensures { result ≡ 2000 * of_running (λ _. 1) (guest_in slot.now) }
+    ensures { result ≡ 200 * of_running (λ _. 1) (guest_in slot.now) }
 {
     match guest_of(slot) {
         Some(_) => 2 * MOVE_TIME,
@@ -269,7 +269,7 @@ fn prepare(slot: &mut Slot) -> Result<(), AllocError>
     ensures same { unprepared slot.new ≡ unprepared slot.old }
 {
     match slot {
-        Slot::Running(guest) => guest.prepare(),
+        Slot::Running(seated) => seated.guest_mut().prepare(),
         Slot::Stopped(_) | Slot::Away => Ok(()),
     }
 }
@@ -295,7 +295,7 @@ fn leave(slot: &mut Slot, turns: &mut Vec<Turn>)
 {
     match mem::replace(slot, Slot::Away) {
         Slot::Running(guest) => turns.push_reserved(Turn { guest }),
-        Slot::Stopped(spec) => fill(slot, Slot::Stopped(spec)),
+        Slot::Stopped(idle) => fill(slot, Slot::Stopped(idle)),
         Slot::Away => {}
     }
 }

@@ -13,6 +13,7 @@ ghost use Rattle.vm_pool.specs.Guests.{running};
 ghost use Rattle.vm_pool.specs.Pool.{held_by, total_held};
 ghost use Rattle.vm_pool.specs.Slots.{config_in, guest_in, holders, holds, is_away, slot_changed, spec_in, IsRunning, IsSettled, IsStopped};
 
+use crate::seat::{Idle, Seated};
 use crate::shelf::Shelf;
 use crate::{granting, minimum};
 use std::alloc::{AllocError, Global};
@@ -22,8 +23,8 @@ use vm_frames::{Frame, Machine};
 use vm_guest::{Guest, GuestRoom, GuestSpec};
 
 pub(crate) enum Slot {
-    Stopped(GuestSpec),
-    Running(Guest),
+    Stopped(Idle),
+    Running(Seated),
     // The guest starts, stops, or runs its epoch.
     Away,
 }
@@ -40,8 +41,8 @@ impl Work for Slot {
     ghost piece = { λ _ slot. slot_run slot };
 
     fn run(&mut self) {
-        if let Slot::Running(guest) = self {
-            guest.run_epoch();
+        if let Slot::Running(seated) = self {
+            seated.guest_mut().run_epoch();
         }
     }
 }
@@ -51,7 +52,7 @@ pub(crate) fn guest_of(slot: &Slot) -> Option<&Guest>
     ensures { option_map (λ g. g.now.guest) result ≡ guest_in slot.now }
 {
     match slot {
-        Slot::Running(guest) => Some(guest),
+        Slot::Running(seated) => Some(seated.guest()),
         Slot::Stopped(_) => None,
         Slot::Away => None,
     }
@@ -62,7 +63,7 @@ pub(crate) fn spec_of(slot: &Slot) -> Option<&GuestSpec>
     ensures { option_map (λ s. s.now) result ≡ spec_in slot.now }
 {
     match slot {
-        Slot::Stopped(spec) => Some(spec),
+        Slot::Stopped(idle) => Some(idle.spec()),
         Slot::Running(_) => None,
         Slot::Away => None,
     }
@@ -75,8 +76,8 @@ pub(crate) fn fill(slot: &mut Slot, new: Slot)
 {
     match mem::replace(slot, new) {
         Slot::Away => {}
-        Slot::Stopped(_) => unreachable!(),
-        Slot::Running(_guest) => unreachable!(),
+        Slot::Stopped(_idle) => unreachable!(),
+        Slot::Running(_seated) => unreachable!(),
     }
 }
 
@@ -86,7 +87,7 @@ pub(crate) fn room_to_start(alloc: Global, slot: &Slot) -> Result<GuestRoom, All
     ensures { IfOk result (λ room. room ≡ room_for (config_in slot.now)) }
 {
     match slot {
-        Slot::Stopped(spec) => GuestRoom::new(alloc, spec),
+        Slot::Stopped(idle) => GuestRoom::new(alloc, idle.spec()),
         Slot::Running(_) => unreachable!(),
         Slot::Away => unreachable!(),
     }
@@ -102,7 +103,7 @@ pub(crate) fn take_room(
     ensures { IfOk result (λ room. room ≡ room_for (config_in slot.now)) }
 {
     match slot {
-        Slot::Stopped(spec) => shelf.take(alloc, spec),
+        Slot::Stopped(idle) => shelf.take(alloc, idle.spec()),
         Slot::Running(_) => unreachable!(),
         Slot::Away => unreachable!(),
     }
@@ -116,11 +117,12 @@ pub(crate) fn start(slot: &mut Slot, room: GuestRoom, machine: &mut Machine)
     ensures { Moves (Some (started (config_in slot.old))) slot.old slot.new machine.old machine.new }
 {
     match mem::replace(slot, Slot::Away) {
-        Slot::Stopped(spec) => {
+        Slot::Stopped(idle) => {
+            let (spec, seat) = idle.leave();
             let guest = Guest::start_in(spec, room, machine);
-            fill(slot, Slot::Running(guest));
+            fill(slot, Slot::Running(seat.with_guest(guest)));
         }
-        Slot::Running(_guest) => unreachable!(),
+        Slot::Running(_seated) => unreachable!(),
         Slot::Away => unreachable!(),
     }
 }
@@ -132,12 +134,13 @@ pub(crate) fn stop(slot: &mut Slot, machine: &mut Machine) -> GuestRoom
     ensures { Moves None slot.old slot.new machine.old machine.new }
 {
     match mem::replace(slot, Slot::Away) {
-        Slot::Running(guest) => {
+        Slot::Running(seated) => {
+            let (guest, seat) = seated.leave();
             let (spec, room) = guest.stop_keeping(machine);
-            fill(slot, Slot::Stopped(spec));
+            fill(slot, Slot::Stopped(seat.with_spec(spec)));
             room
         }
-        Slot::Stopped(_) => unreachable!(),
+        Slot::Stopped(_idle) => unreachable!(),
         Slot::Away => unreachable!(),
     }
 }
@@ -146,8 +149,8 @@ pub(crate) fn stop(slot: &mut Slot, machine: &mut Machine) -> GuestRoom
 pub(crate) fn serve(slot: &mut Slot)
     ensures { slot.new ≡ slot_changed serviced slot.old }
 {
-    if let Slot::Running(guest) = slot {
-        guest.serve();
+    if let Slot::Running(seated) = slot {
+        seated.guest_mut().serve();
     }
 }
 
@@ -157,8 +160,8 @@ pub(crate) fn spares_back(slot: &mut Slot, machine: &mut Machine)
     requires out { (number : ℕ) → holds number slot.old ≡ true → set.contains machine.old.out number ≡ true }
     ensures { Moves (option_map without_spares (guest_in slot.old)) slot.old slot.new machine.old machine.new }
 {
-    if let Slot::Running(guest) = slot {
-        let _ = guest.spares_back(machine);
+    if let Slot::Running(seated) = slot {
+        let _ = seated.guest_mut().spares_back(machine);
     }
 }
 
@@ -169,8 +172,8 @@ pub(crate) fn release(slot: &mut Slot, count: u32, machine: &mut Machine)
     requires out { (number : ℕ) → holds number slot.old ≡ true → set.contains machine.old.out number ≡ true }
     ensures { Moves (option_map (released count) (guest_in slot.old)) slot.old slot.new machine.old machine.new }
 {
-    if let Slot::Running(guest) = slot {
-        guest.release(count, machine);
+    if let Slot::Running(seated) = slot {
+        seated.guest_mut().release(count, machine);
     }
 }
 
@@ -179,8 +182,8 @@ pub(crate) fn revoke(slot: &mut Slot, count: u32)
     requires { IfSome (guest_in slot.old) (λ g. g.allotment.min + count ≤ g.allotment.target) }
     ensures { slot.new ≡ slot_changed (lowered count) slot.old }
 {
-    if let Slot::Running(guest) = slot {
-        guest.lower_target(count);
+    if let Slot::Running(seated) = slot {
+        seated.guest_mut().lower_target(count);
     }
 }
 
@@ -193,8 +196,8 @@ pub(crate) fn grant(slot: &mut Slot, count: u32, machine: &mut Machine)
     requires out { (number : ℕ) → holds number slot.old ≡ true → set.contains machine.old.out number ≡ true }
     ensures { Moves (option_map (grown count) (guest_in slot.old)) slot.old slot.new machine.old machine.new }
 {
-    if let Slot::Running(guest) = slot {
-        granting::grant(guest, count, machine);
+    if let Slot::Running(seated) = slot {
+        granting::grant(seated.guest_mut(), count, machine);
     }
 }
 
@@ -204,8 +207,8 @@ pub(crate) fn set_cap(slot: &mut Slot, cap: u32)
     requires to { IfSome (guest_in slot.old) (λ g. cap ≤ g.config.size) }
     ensures { slot.new ≡ slot_changed (λ g. with_cap g cap) slot.old }
 {
-    if let Slot::Running(guest) = slot {
-        guest.set_cap(cap);
+    if let Slot::Running(seated) = slot {
+        seated.guest_mut().set_cap(cap);
     }
 }
 
@@ -215,8 +218,8 @@ pub(crate) fn set_shares(slot: &mut Slot, shares: u32)
     requires few { shares ≤ 1000000 }
     ensures { slot.new ≡ slot_changed (λ g. with_shares g shares) slot.old }
 {
-    if let Slot::Running(guest) = slot {
-        guest.set_shares(shares);
+    if let Slot::Running(seated) = slot {
+        seated.guest_mut().set_shares(shares);
     }
 }
 
@@ -224,8 +227,8 @@ pub(crate) fn set_shares(slot: &mut Slot, shares: u32)
 pub(crate) fn order(slot: &mut Slot, blocked: bool)
     ensures { slot.new ≡ slot_changed (λ g. ordered g blocked) slot.old }
 {
-    if let Slot::Running(guest) = slot {
-        guest.order(blocked);
+    if let Slot::Running(seated) = slot {
+        seated.guest_mut().order(blocked);
     }
 }
 
@@ -241,8 +244,8 @@ pub(crate) fn set_min(slot: &mut Slot, least: u32, machine: &mut Machine) -> Res
     ensures slot { OnErr result (slot.new ≡ slot.old) }
     ensures machine { OnErr result (machine.new ≡ machine.old) }
 {
-    if let Slot::Running(guest) = slot {
-        minimum::set_min(guest, least, machine)?;
+    if let Slot::Running(seated) = slot {
+        minimum::set_min(seated.guest_mut(), least, machine)?;
     }
     Ok(())
 }
@@ -258,12 +261,16 @@ fn close(slot: Slot, shelf: &mut Shelf, machine: &mut Machine) -> GuestSpec
     ensures spec { result ≡ config_in slot }
 {
     match slot {
-        Slot::Running(guest) => {
+        Slot::Running(seated) => {
+            let (guest, _seat) = seated.leave();
             let (spec, room) = guest.stop_keeping(machine);
             shelf.keep(room);
             spec
         }
-        Slot::Stopped(spec) => spec,
+        Slot::Stopped(idle) => {
+            let (spec, _seat) = idle.leave();
+            spec
+        }
         Slot::Away => unreachable!(),
     }
 }

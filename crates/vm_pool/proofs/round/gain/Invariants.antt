@@ -11,9 +11,9 @@ invariant-loop-slot l = record {
   steps : l.steps + total steps_of (map guest_in (drop l.slot-index l.slots)) ≡ total steps_of (map guest_in l.slots);
   pages : l.pages + total pages_of (map guest_in (drop l.slot-index l.slots)) ≡ total pages_of (map guest_in l.slots);
   beside : l.beside + total beside_of (map guest_in (drop l.slot-index l.slots)) ≡ total beside_of (map guest_in l.slots);
-  moves : l.moves + 2000 * running_count (map guest_in (drop l.slot-index l.slots)) ≡ 2000 * running_count (map guest_in l.slots);
+  moves : l.moves + 200 * running_count (map guest_in (drop l.slot-index l.slots)) ≡ 200 * running_count (map guest_in l.slots);
   few_steps : l.steps ≤ l.slot-index * 262144;
   few_pages : l.pages ≤ l.slot-index * 2 ^ 33;
   little : l.beside ≤ l.slot-index * 400000000;
-  few_moves : l.moves ≤ l.slot-index * 2000;
+  few_moves : l.moves ≤ l.slot-index * 200;
 }
