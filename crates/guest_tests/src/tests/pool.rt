@@ -11,7 +11,7 @@ use crate::tests::check_eq;
 use std::process::Abort;
 use std::sync::atomic::{AtomicU64, Ordering};
 use std::thread::Threads;
-use vm_pool::{Gate, GuestSpec, GuestView, Open, PageRead, Pool, Ran};
+use vm_pool::{Gate, GuestSpec, GuestView, Open, PageRead, Pool, Ran, Shelf};
 use vm_trace::{Bytes, Trace};
 
 // A guest of so many pages with this minimum, which runs one step an epoch.
@@ -44,6 +44,15 @@ fn guest_of(size: u32, min: u32, trace: Trace) -> GuestSpec
 fn pool_of(rt: &(impl AllocGlobal + Abort), overhead: u32, specs: Vec<GuestSpec>) -> Pool {
     assert!(rt; specs.len() <= 256);
     match Pool::new(rt.alloc(), 20, overhead, specs) {
+        Ok(pool) => pool,
+        Err(_specs) => panic!(rt; "memory"),
+    }
+}
+
+// The same without overhead, with the rooms that guests of another pool left.
+fn pool_on(rt: &(impl AllocGlobal + Abort), specs: Vec<GuestSpec>, shelf: Shelf) -> Pool {
+    assert!(rt; specs.len() <= 256);
+    match Pool::with_shelf(rt.alloc(), 20, 0, specs, shelf) {
         Ok(pool) => pool,
         Err(_specs) => panic!(rt; "memory"),
     }
@@ -689,4 +698,19 @@ fn a_guest_in_a_used_room_is_as_a_new_one(rt: HostRuntime) {
     check_zeros(&rt, &pool, 0);
     check_eq(&rt, shown_once_written(&rt, &mut pool, 0), first);
     pool.close();
+}
+
+// So does a guest of a pool after the one whose guests left their rooms.
+#[test]
+fn a_guest_in_a_room_of_another_pool_is_as_a_new_one(rt: HostRuntime) {
+    let mut pool = pool_of_two(&rt, 0, writer(&rt, 8, 8), writer(&rt, 8, 8));
+    start(&rt, &mut pool, 0);
+    let first = shown_once_written(&rt, &mut pool, 0);
+    let (specs, shelf) = pool.close_keeping();
+
+    let mut next = pool_on(&rt, specs, shelf);
+    start(&rt, &mut next, 1);
+    check_zeros(&rt, &next, 1);
+    check_eq(&rt, shown_once_written(&rt, &mut next, 1), first);
+    next.close();
 }

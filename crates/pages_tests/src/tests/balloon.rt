@@ -3,7 +3,9 @@ ghost use Rattle.std.specs.Prelude.{◌≡◌, ◌<◌, ◌≤◌, vec_capacity}
 use super::{check, check_eq};
 use std::alloc::Global;
 use std::process::Abort;
-use vm_balloon::{Device, PostError, Queue, Stats, encode_page, encode_stat, page_at, stat_at};
+use vm_balloon::{
+    Device, PageQueueKind, PostError, Queue, Stats, encode_page, encode_stat, page_at, stat_at,
+};
 
 // Serves the device, and asserts what that did.
 fn check_service(rt: &impl Abort, device: &mut Device, inflated: &[u32], deflated: &[u32], bad: u32)
@@ -20,6 +22,19 @@ fn check_post(rt: &impl Abort, device: &mut Device, queue: Queue, bytes: &[u8])
     ensures { device.new.size ≡ device.old.size }
 {
     check_eq(rt, device.post(queue, bytes), Ok(()));
+}
+
+// Posts page numbers as they are, and asserts what the device answers.
+fn check_post_pages(
+    rt: &impl Abort,
+    device: &mut Device,
+    queue: PageQueueKind,
+    pages: &[u32],
+    want: Result<(), PostError>,
+)
+    ensures { device.new.size ≡ device.old.size }
+{
+    check_eq(rt, device.post_pages(queue, pages), want);
 }
 
 // Posts a buffer, serves the device, and asserts what that did.
@@ -291,6 +306,30 @@ fn no_page_in_it(rt: HostRuntime) {
     }
     check_service(&rt, &mut device, &[], &[], 0);
     check_stats(&rt, &device, Stats::default());
+    end(device);
+}
+
+// Page numbers that are posted as they are do what their bytes would do.
+#[test]
+fn page_numbers_are_posted(rt: HostRuntime) {
+    let mut device = new_device(&rt, rt.alloc(), 4, 2);
+    let too_many = Err(PostError::TooLong);
+    check_post_pages(
+        &rt,
+        &mut device,
+        PageQueueKind::Inflate,
+        &[0; 257],
+        too_many,
+    );
+    check_post_pages(&rt, &mut device, PageQueueKind::Inflate, &[3, 4, 3], Ok(()));
+    check_posted(&rt, &device, 3, true, false);
+    check_post_pages(&rt, &mut device, PageQueueKind::Deflate, &[3, 1], Ok(()));
+    check_posted(&rt, &device, 1, false, true);
+    let full = Err(PostError::Full);
+    check_post_pages(&rt, &mut device, PageQueueKind::Deflate, &[], full);
+    // Bad are the second 3, 4, which is past the end, and 1, which is not in the balloon.
+    check_service(&rt, &mut device, &[3], &[3], 3);
+    check_len(&rt, &device, 0);
     end(device);
 }
 
