@@ -11,7 +11,8 @@ ghost use Rattle.vm_tally.specs.GuestTally.{tally_after};
 use crate::guest_summary::GuestSummary;
 use crate::guest_tally::GuestTally;
 use std::alloc::Global;
-use vm_sim::{Config, Open, RunError, SteppedRun};
+use std::mem;
+use vm_sim::{Config, Open, RunError, Shelf, SteppedRun};
 
 // The next epoch of a run, with the boundary before it.
 fn add_next(alloc: Global, run: &mut SteppedRun, tally: &mut GuestTally) -> Result<(), RunError>
@@ -76,8 +77,24 @@ pub fn run_guests_alone(
     ensures back { IfOk result (λ r. r.1 ≡ config) }
     ensures memory { IfErr result (λ error. error ≡ Memory) }
 {
-    let mut run = SteppedRun::new(alloc, config)?;
+    run_guests_alone_with(alloc, config, &mut Shelf::new(alloc))
+}
+
+/// The same with the rooms that guests of other runs left, to which the guests of this one leave theirs. Where memory is refused, none
+/// may be left.
+pub fn run_guests_alone_with(
+    alloc: Global,
+    config: Config,
+    shelf: &mut Shelf,
+) -> Result<(Vec<GuestSummary>, Config), RunError>
+    ensures summaries { IfOk result (λ r. r.0.items ≡ guest_summaries_of config) }
+    ensures back { IfOk result (λ r. r.1 ≡ config) }
+    ensures memory { IfErr result (λ error. error ≡ Memory) }
+{
+    let rooms = mem::replace(shelf, Shelf::new(alloc));
+    let mut run = SteppedRun::with_shelf(alloc, config, rooms)?;
     let summaries = summarize_guests(alloc, &mut run);
-    let config = run.close();
+    let (config, left) = run.close_keeping();
+    *shelf = left;
     Ok((summaries?, config))
 }

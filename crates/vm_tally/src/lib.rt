@@ -9,7 +9,8 @@
 //!
 //! **Proved**, for every configuration: [`run_alone`] runs it to its end in the caller's thread, answers the numbers of its run
 //! (`summary`, definition `summary_of` over the course of `run`), and gives it back (`back`); its only error is want of memory
-//! (`memory`). [`run_guests_alone`] answers the numbers of each guest, in order (`summaries`, definition `guest_summaries_of`). A
+//! (`memory`). [`run_guests_alone`] answers the numbers of each guest, in order (`summaries`, definition `guest_summaries_of`).
+//! [`run_alone_with`] and [`run_guests_alone_with`] answer the same, whatever rooms other runs left. A
 //! `Combination` is five values in their ranges: `of` reads those of a configuration, `apply` gives it others and leaves all else
 //! (`configured`). The texts of records and headers are their definitions to the last byte, with columns of rebalancing or without,
 //! and with any further columns behind those of the settings. [`guest_names`] gives the names and leaves the configuration as it
@@ -36,10 +37,11 @@ mod table;
 mod tally;
 
 pub use combination::Combination;
-pub use guest_running::run_guests_alone;
+pub use guest_running::{run_guests_alone, run_guests_alone_with};
 pub use guest_summary::{AtEnd, GuestSummary};
 pub use guest_table::{guest_names, guest_records_text, guests_header_text};
-pub use running::run_alone;
+pub use running::{run_alone, run_alone_with};
 pub use summary::Summary;
 pub use table::{Rebalancing, header_text, record_text};
 pub use vm_domains::Names;
+pub use vm_sim::Shelf;

@@ -10,7 +10,8 @@ ghost use Rattle.vm_tally.specs.Summary.{summary_after, summary_of};
 use crate::summary::Summary;
 use crate::tally::{add_boundary, add_epoch, empty_summary};
 use std::alloc::Global;
-use vm_sim::{Config, Open, RunError, SteppedRun};
+use std::mem;
+use vm_sim::{Config, Open, RunError, Shelf, SteppedRun};
 
 // The next epoch of a run, which has this number, with the boundary before it.
 fn add_next(
@@ -62,8 +63,24 @@ pub fn run_alone(alloc: Global, config: Config) -> Result<(Summary, Config), Run
     ensures back { IfOk result (λ r. r.1 ≡ config) }
     ensures memory { IfErr result (λ error. error ≡ Memory) }
 {
-    let mut run = SteppedRun::new(alloc, config)?;
+    run_alone_with(alloc, config, &mut Shelf::new(alloc))
+}
+
+/// The same with the rooms that guests of other runs left, to which the guests of this one leave theirs. Where memory is refused, none
+/// may be left.
+pub fn run_alone_with(
+    alloc: Global,
+    config: Config,
+    shelf: &mut Shelf,
+) -> Result<(Summary, Config), RunError>
+    ensures summary { IfOk result (λ r. r.0 ≡ summary_of config) }
+    ensures back { IfOk result (λ r. r.1 ≡ config) }
+    ensures memory { IfErr result (λ error. error ≡ Memory) }
+{
+    let rooms = mem::replace(shelf, Shelf::new(alloc));
+    let mut run = SteppedRun::with_shelf(alloc, config, rooms)?;
     let summary = summarize(alloc, &mut run);
-    let config = run.close();
+    let (config, left) = run.close_keeping();
+    *shelf = left;
     Ok((summary?, config))
 }

@@ -1,5 +1,0 @@
-use Rattle.vm_tally.proofs.running.run_alone.Goals as goal
-
-pub returns-clause-back : goal.returns-clause-back
-returns-clause-back c =
-    c.close-config.ensures.back c.args.config c.args.config.epochs (c.in_ok-summary.ensures.run c.args.config c.in_ok-run.ensures.start)
