@@ -8,7 +8,6 @@ ghost use Rattle.vm_sweep.specs.Rounds.{CanRun};
 ghost use Rattle.vm_variants.specs.Changes.{changed};
 
 use crate::outcome::{Detail, Outcome, run_told};
-use crate::small_blocks::SmallBlocks;
 use crate::task::Task;
 use crate::variant::{Variant, added_of};
 use crate::workplace::Workplace;
@@ -136,10 +135,7 @@ fn run_in(place: &mut Workplace, detail: Detail, variant: &Variant) -> Option<Ou
     law_runs();
     let taken = place.config.take()?;
     let config = vary(place.alloc, variant, taken)?;
-    let blocks = SmallBlocks::take(place.alloc);
-    let ran = run_told(place.alloc, detail, variant, config);
-    blocks.replace_kept(place.alloc);
-    match ran {
+    match run_told(place.alloc, detail, variant, config, &mut place.shelf) {
         Ok((outcome, mut left)) => {
             take_back(place.alloc, variant, &mut left);
             place.config = Some(left);

@@ -2,7 +2,7 @@
 //!
 //! [`sweep`] runs the configuration of a text once for each combination of [`Lists`] of values, on threads, and writes a table with
 //! a record for each: `specs/Table.antt` says what it is, over `vm_tally`, which tells a run in numbers. A thread has a copy of the
-//! configuration, and one host at a time; inside a run it serves the guests in order, so the table is the same for any number of
+//! configuration, the rooms that guests of its last run left, and one host at a time; inside a run it serves the guests in order, so the table is the same for any number of
 //! threads. [`sweep_guests`] does the same runs and writes a record for each guest of each. [`draw_sweep`] does them and draws them:
 //! `specs/Drawn.antt` says what of each is drawn.
 //!
@@ -51,7 +51,6 @@ mod refusals;
 mod round;
 mod rounds;
 mod runs;
-mod small_blocks;
 mod space;
 mod sweeping;
 mod task;

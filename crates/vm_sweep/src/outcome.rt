@@ -9,8 +9,8 @@ use std::alloc::{AllocError, Global};
 use vm_config::Config;
 use vm_sim::RunError;
 use vm_tally::{
-    GuestSummary, Names, Rebalancing, Summary, guest_names, guest_records_text, run_alone,
-    run_guests_alone,
+    GuestSummary, Names, Rebalancing, Shelf, Summary, guest_names, guest_records_text,
+    run_alone_with, run_guests_alone_with,
 };
 
 /// How much is told of a run, and where the values of the rebalancing are from.
@@ -71,32 +71,36 @@ fn run_by_guests(
     rebalancing: Rebalancing,
     variant: &Variant,
     mut config: Config,
+    shelf: &mut Shelf,
 ) -> Result<(Outcome, Config), RunError>
     ensures told { IfOk result (λ r. Tells (Detail.EachGuest rebalancing) variant.now config r.0) }
     ensures back { IfOk result (λ r. r.1 ≡ config) }
 {
     let names = guest_names(alloc, &mut config)?;
-    let (summaries, config) = run_guests_alone(alloc, config)?;
+    let (summaries, config) = run_guests_alone_with(alloc, config, shelf)?;
     let records = guests_text(alloc, rebalancing, variant, &names, &summaries)?;
     Ok((Outcome::AsRecords(records), config))
 }
 
-/// Runs a configuration that has this in the place of its own to its end in the caller's thread. It comes back; where memory is refused, which is the
-/// only error, it is gone.
+/// Runs a configuration that has this in the place of its own to its end in the caller's thread, with the rooms that guests of other runs
+/// left. It comes back; where memory is refused, which is the only error, it is gone.
 pub(crate) fn run_told(
     alloc: Global,
     detail: Detail,
     variant: &Variant,
     config: Config,
+    shelf: &mut Shelf,
 ) -> Result<(Outcome, Config), RunError>
     ensures told { IfOk result (λ r. Tells detail variant.now config r.0) }
     ensures back { IfOk result (λ r. r.1 ≡ config) }
 {
     match detail {
         Detail::Run(_) => {
-            let (summary, config) = run_alone(alloc, config)?;
+            let (summary, config) = run_alone_with(alloc, config, shelf)?;
             Ok((Outcome::InNumbers(summary), config))
         }
-        Detail::EachGuest(rebalancing) => run_by_guests(alloc, rebalancing, variant, config),
+        Detail::EachGuest(rebalancing) => {
+            run_by_guests(alloc, rebalancing, variant, config, shelf)
+        }
     }
 }

@@ -15,6 +15,7 @@ use std::alloc::{AllocError, Global};
 use std::thread::Threads;
 use std::vec::IntoIter;
 use vm_config::Config;
+use vm_tally::Shelf;
 use vm_variants::Changes;
 
 // The runs of a configuration with each of these, in order.
@@ -53,6 +54,7 @@ fn own_place(alloc: Global, config: Config, like: &Changes) -> Result<Workplace,
         alloc,
         config: Some(config),
         like: seen,
+        shelf: Shelf::new(alloc),
     })
 }
 
@@ -66,6 +68,7 @@ fn copied_place(alloc: Global, config: &Config, like: &Changes) -> Result<Workpl
         alloc,
         config: Some(copy),
         like: seen,
+        shelf: Shelf::new(alloc),
     })
 }
 
